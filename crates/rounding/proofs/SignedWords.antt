@@ -1,0 +1,60 @@
+-- Signed words of 64 bits: what fits, and what a test of the sign tells.
+use mathlib.Core.Path.{_≡_, refl, ap, _∙_, subst, subst⁻¹}
+use mathlib.Core.Bool.{true, false}
+use Prim.Native.Nat.{ℕ, zero, suc, _≤_, _<_, _^_}
+use native.Mathlib.Nat.{zero-add, lt-of-le-of-lt, le-refl}
+use native.Mathlib.Omega.{arith}
+use borrow.Author.Tests.{ltb-true}
+use lib.Dec.{T}
+use lib.IntN.{ℤ, pos, negsuc, negℤ, natAbs, _-ℤ_, +ℤ-idl}
+use lib.Signed.{mag, ltZ, nonNeg}
+use mir.Syntax.{w64}
+use mir.Val.{Fits, SFits, toZ, ofZ}
+use mir.Facts.{toZ-ofZ}
+use Rattle.rounding.proofs.Signs.{natAbs-neg}
+
+mag≤ : (z : ℤ) → mag z ≤ natAbs z
+mag≤ (pos n) = le-refl n
+mag≤ (negsuc n) = omega arith
+
+pub fits64 : (z : ℤ) → natAbs z < 2 ^ 63 → SFits w64 z
+fits64 z h = record { sfits = lt-of-le-of-lt (mag≤ z) h }
+
+-- a number below 2^63 is not below 0
+pub toZ-pos : (x : ℕ) → x < 2 ^ 63 → toZ w64 x ≡ pos x
+toZ-pos x h = toZ-ofZ (fits64 (pos x) h)
+
+-- a number that is not below 0, cast to an unsigned word
+pub cast-pos : (z : ℤ) (k : ℕ) → z ≡ pos k → k < 2 ^ 63 → T (nonNeg z) × Fits w64 (natAbs z)
+cast-pos z k e h = rw e (tt, record { fits = omega arith })
+
+-- 0 - x, as the machine negates
+pub minus-is : (x : ℕ) → x < 2 ^ 63 → pos 0 -ℤ toZ w64 x ≡ negℤ (pos x)
+minus-is x h = ap (λ (z : ℤ). pos 0 -ℤ z) (toZ-pos x h) ∙ +ℤ-idl (negℤ (pos x))
+
+pub minus-fits : (x : ℕ) → x < 2 ^ 63 → SFits w64 (pos 0 -ℤ toZ w64 x)
+minus-fits x h = subst⁻¹ (SFits w64) (minus-is x h) (fits64 (negℤ (pos x)) (omega (arith, natAbs-neg x)))
+
+-- the sign of a number, from the test of its bits
+module _ (n : ℤ) (f : SFits w64 n) where
+  pub is-below : ltZ (toZ w64 (ofZ w64 n)) (pos 0) ≡ true → n ≡ negℤ (pos (natAbs n))
+  is-below e = go n (rw (toZ-ofZ f) at e)
+    where
+      go : (z : ℤ) → ltZ z (pos 0) ≡ true → z ≡ negℤ (pos (natAbs z))
+      go (pos a) e = absurd (omega (arith, ltb-true a 0 e))
+      go (negsuc a) e = refl
+
+  pub not-below : ltZ (toZ w64 (ofZ w64 n)) (pos 0) ≡ false → n ≡ pos (natAbs n)
+  not-below e = go n (rw (toZ-ofZ f) at e)
+    where
+      go : (z : ℤ) → ltZ z (pos 0) ≡ false → z ≡ pos (natAbs z)
+      go (pos a) e = refl
+      go (negsuc a) e = absurd (subst (λ b. T b) e tt)
+
+  -- the opposite of a number below 0
+  pub opposite : ltZ (toZ w64 (ofZ w64 n)) (pos 0) ≡ true → pos 0 -ℤ toZ w64 (ofZ w64 n) ≡ pos (natAbs n)
+  opposite e = ap (λ (z : ℤ). pos 0 -ℤ z) (toZ-ofZ f) ∙ go n (rw (toZ-ofZ f) at e)
+    where
+      go : (z : ℤ) → ltZ z (pos 0) ≡ true → pos 0 -ℤ z ≡ pos (natAbs z)
+      go (pos a) e = absurd (omega (arith, ltb-true a 0 e))
+      go (negsuc a) e = ap pos (zero-add (suc a))

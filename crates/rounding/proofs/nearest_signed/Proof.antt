@@ -1,0 +1,92 @@
+use mathlib.Core.Path.{_≡_, sym, ap, _∙_}
+use Prim.Native.Nat.{ℕ, _<_, _^_}
+use native.Mathlib.Nat.{le-mul-of-pos-right}
+use native.Mathlib.Omega.{arith}
+use borrow.Author.Needs.{needs}
+use lib.IntN.{ℤ, pos, negℤ, natAbs, _-ℤ_}
+use mir.Syntax.{w64}
+use mir.Val.{toZ, ofZ}
+use mir.Facts.{toZ-ofZ}
+use Rattle.rounding.specs.Near.{nearZ}
+use Rattle.rounding.proofs.NearLaws.{nearZ-half, nearZ-pos, at-most}
+use Rattle.rounding.proofs.Signs.{natAbs-neg}
+use Rattle.rounding.proofs.SignedWords.{fits64, toZ-pos, cast-pos, minus-is, minus-fits, is-below, not-below, opposite}
+use Rattle.rounding.proofs.nearest_signed.Statement.{statement}
+use Rattle.rounding.proofs.nearest_signed.Tie as tie
+
+-- the answer is no larger than n
+size : (n : ℤ) (q : ℕ) → (0 < q) × (natAbs n < 9223372036854775808) → natAbs (nearZ n q) < 2 ^ 63
+size n q (h, small) = omega (arith, at-most {b = natAbs n} (nearZ-half n q h) (le-mul-of-pos-right (natAbs n) h))
+
+sub-nearest-below-zero : tie.Need-sub-nearest-below-zero
+sub-nearest-below-zero c =
+    rw (opposite (c .before .args .n) (c .before .fits .n) (c .if1 .taken)) (fits64 _ (c .before .pre .1))
+
+-- -n, which is not below 0
+opposite-is : (c : tie.Then1) → toZ w64 (ofZ w64 (pos 0 -ℤ toZ w64 (ofZ w64 (c .before .args .n)))) ≡ pos (natAbs (c .before .args .n))
+opposite-is c = toZ-ofZ (sub-nearest-below-zero c) ∙ opposite (c .before .args .n) (c .before .fits .n) (c .if1 .taken)
+
+cast-nearest-below-zero : tie.Need-cast-nearest-below-zero
+cast-nearest-below-zero c = cast-pos _ _ (opposite-is c) (c .before .pre .1)
+
+nearest-below-zero-requires : tie.Need-nearest-below-zero-requires
+nearest-below-zero-requires c κs = search needs
+
+below : (c : tie.After-nearest-below-zero) → negℤ (pos (c .nearest-below-zero .result)) ≡ nearZ (c .before .before .args .n) (c .before .before .args .q)
+below c =
+    let s = c .before .before in
+    c .nearest-below-zero .ensures
+    ∙ ap (λ (z : ℤ). nearZ (negℤ (pos (natAbs z))) (s .args .q)) (opposite-is (c .before))
+    ∙ ap (λ (z : ℤ). nearZ z (s .args .q)) (sym (is-below (s .args .n) (s .fits .n) (c .before .if1 .taken)))
+
+below-size : (c : tie.After-nearest-below-zero) → c .nearest-below-zero .result < 2 ^ 63
+below-size c = rw (← below c, natAbs-neg) at (size (c .before .before .args .n) (c .before .before .args .q) (c .before .before .pre))
+
+cast-result : tie.Need-cast-result
+cast-result c = fits64 _ (below-size c)
+
+sub-result : tie.Need-sub-result
+sub-result c = minus-fits _ (below-size c)
+
+n-is : (c : tie.Else1) → toZ w64 (ofZ w64 (c .before .args .n)) ≡ pos (natAbs (c .before .args .n))
+n-is c = toZ-ofZ (c .before .fits .n) ∙ not-below (c .before .args .n) (c .before .fits .n) (c .if1 .left)
+
+cast-nearest : tie.Need-cast-nearest
+cast-nearest c = cast-pos _ _ (n-is c) (c .before .pre .1)
+
+nearest-requires : tie.Need-nearest-requires
+nearest-requires c κs = search needs
+
+above : (c : tie.After-nearest) → pos (c .nearest .result) ≡ nearZ (c .before .before .args .n) (c .before .before .args .q)
+above c =
+    let s = c .before .before in
+    ap pos (c .nearest .ensures)
+    ∙ sym (nearZ-pos _ (s .args .q))
+    ∙ ap (λ (z : ℤ). nearZ z (s .args .q)) (ap (λ (z : ℤ). pos (natAbs z)) (n-is (c .before)) ∙ sym (not-below (s .args .n) (s .fits .n) (c .before .if1 .left)))
+
+above-size : (c : tie.After-nearest) → c .nearest .result < 2 ^ 63
+above-size c = rw (← above c) at (size (c .before .before .args .n) (c .before .before .args .q) (c .before .before .pre))
+
+cast-result-2 : tie.Need-cast-result-2
+cast-result-2 c = fits64 _ (above-size c)
+
+returns : tie.Need-returns
+returns c = toZ-ofZ (sub-result c) ∙ minus-is _ (below-size c) ∙ below c
+
+returns-2 : tie.Need-returns-2
+returns-2 c = toZ-pos _ (above-size c) ∙ above c
+
+pub nearest-signed-spec : {M : Type 1} → statement M
+nearest-signed-spec =
+    tie.close
+    (tie.spec
+    sub-nearest-below-zero
+    cast-nearest-below-zero
+    nearest-below-zero-requires
+    cast-result
+    sub-result
+    cast-nearest
+    nearest-requires
+    cast-result-2
+    returns
+    returns-2)

@@ -1,0 +1,4 @@
+pub mod Near
+pub mod Fraction
+pub mod Root
+pub mod Wide
