@@ -13,7 +13,7 @@ use mir.Val.{Fits, SFits, toZ, ofZ}
 use mir.Facts.{toZ-ofZ}
 use Rattle.rounding.proofs.Signs.{natAbs-neg}
 
-mag≤ : (z : ℤ) → mag z ≤ natAbs z
+pub mag≤ : (z : ℤ) → mag z ≤ natAbs z
 mag≤ (pos n) = le-refl n
 mag≤ (negsuc n) = omega arith
 

@@ -1,0 +1,7 @@
+pub mod Every
+pub mod RuleLaws
+pub mod Entries
+pub mod SignedSums
+pub mod SumLaws
+pub mod Summing
+pub mod Bounds

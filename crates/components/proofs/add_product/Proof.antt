@@ -1,0 +1,40 @@
+use mathlib.Core.Path.{_≡_}
+use native.Mathlib.Omega.{arith}
+use borrow.Author.Needs.{needs}
+use lib.IntN.{pos, _+ℤ_, _*ℤ_}
+use mir.Syntax.{w64}
+use mir.Val.{SFits, toZ}
+use mir.Facts.{toZ-ofZ, sfits-widen}
+use Rattle.rounding.proofs.SignedWords.{fits64, toZ-pos}
+use Rattle.components.proofs.SignedSums.{natAbs-add, natAbs-mul, wider}
+use Rattle.components.proofs.add_product.Statement.{statement}
+use Rattle.components.proofs.add_product.Tie as tie
+
+module _ (c : tie.Start) where
+  x-is : toZ w64 (c .args .x) ≡ pos (c .args .x)
+  x-is = toZ-pos (c .args .x) (omega (arith, c .fits .x))
+
+  product : SFits w64 (pos (c .args .x) *ℤ c .args .n)
+  product = fits64 _ (omega (arith, natAbs-mul (c .args .x) (c .args .n)))
+
+  whole : SFits w64 (c .args .sum +ℤ pos (c .args .x) *ℤ c .args .n)
+  whole =
+      fits64 _ (omega (arith, natAbs-add (c .args .sum) (pos (c .args .x) *ℤ c .args .n), natAbs-mul (c .args .x) (c .args .n)))
+
+cast-result : tie.Need-cast-result
+cast-result c = search needs
+
+cast-result-2 : tie.Need-cast-result-2
+cast-result-2 c = rw (toZ-ofZ (c .fits .n)) (sfits-widen tt (c .fits .n))
+
+mul-result : tie.Need-mul-result
+mul-result c = rw (x-is c, wider (c .args .n) (c .fits .n)) (product c)
+
+add-result : tie.Need-add-result
+add-result c = rw (x-is c, wider (c .args .n) (c .fits .n), toZ-ofZ (product c), toZ-ofZ (c .fits .sum)) (whole c)
+
+returns : tie.Need-returns
+returns c = rw (x-is c, wider (c .args .n) (c .fits .n), toZ-ofZ (product c), toZ-ofZ (c .fits .sum), toZ-ofZ (whole c))
+
+pub add-product-spec : {M : Type 1} → statement M
+add-product-spec = tie.close (tie.spec cast-result cast-result-2 mul-result add-result returns)

@@ -1,0 +1,38 @@
+use mathlib.Core.Path.{_≡_, sym, ap, _∙_}
+use native.Mathlib.Omega.{arith}
+use borrow.Author.Needs.{needs, sfits-of}
+use lib.IntN.{ℤ, pos, natAbs}
+use mir.Syntax.{w64}
+use mir.Val.{toZ, ofZ}
+use mir.Facts.{toZ-ofZ}
+use Rattle.rounding.proofs.SignedWords.{cast-pos}
+use Rattle.components.specs.Composition.{sumOf}
+use Rattle.components.proofs.Entries.{entry-below}
+use Rattle.components.proofs.SumLaws.{sizes, sizes-high, sum-is-sizes}
+use Rattle.components.proofs.amount.Statement.{statement}
+use Rattle.components.proofs.amount.Tie as tie
+
+sum-requires : tie.Need-sum-requires
+sum-requires c κs = search needs
+
+module _ (c : tie.After-sum) where
+  abbrev start : tie.Start
+  start = c .before .before .before
+
+  same : sumOf (start .args .column) (start .args .lines .now) (start .args .fractions .now) ≡ pos (sizes (start .args .column) (start .args .lines .now) (start .args .fractions .now))
+  same = sum-is-sizes (start .args .column) (start .pre .1) (start .args .lines .now) (start .args .fractions .now)
+
+  value : toZ w64 (ofZ w64 (c .sum .result)) ≡ pos (sizes (start .args .column) (start .args .lines .now) (start .args .fractions .now))
+  value = toZ-ofZ (sfits-of (c .sum .ok)) ∙ c .sum .ensures ∙ same
+
+cast-result : tie.Need-cast-result
+cast-result c =
+    let a = start c .args in
+    cast-pos _ _ (value c)
+    (omega (arith, sizes-high (a .column) 6842690 (λ l. entry-below l (a .column)) (a .lines .now) (a .fractions .now), start c .pre .0 .sum))
+
+returns : tie.Need-returns
+returns c = ap (λ (z : ℤ). pos (natAbs z)) (value c) ∙ sym (same c)
+
+pub amount-spec : {M : Type 1} → statement M
+amount-spec = tie.close (tie.spec sum-requires cast-result returns)

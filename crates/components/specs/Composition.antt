@@ -1,0 +1,32 @@
+-- A composition: a list of line numbers and a list of mole fractions in ppm, and its sums over the component table.
+use mathlib.Core.Path.{_≡_}
+use mathlib.Core.Bool.{cond}
+use mathlib.Core.List.{List, [], _∷_}
+use Prim.Native.Nat.{ℕ, _+_, _≤_, _<_}
+use lib.Dec.{eqb}
+use lib.IntN.{ℤ, pos, _+ℤ_, _*ℤ_}
+use lib.ListN.{getD, length}
+use Rattle.components.specs.Table.{entryOf}
+
+-- the sum of the fractions
+unfoldable pub total : List ℕ → ℕ
+total [] = 0
+total (x ∷ xs) = x + total xs
+
+-- the fraction of a line, 0 where it is absent
+unfoldable pub fractionFor : ℕ → List ℕ → List ℕ → ℕ
+fractionFor k [] xs = 0
+fractionFor k (l ∷ ls) [] = 0
+fractionFor k (l ∷ ls) (x ∷ xs) = cond (eqb l k) x (fractionFor k ls xs)
+
+-- the sum of x × column: each fraction times the number of its line, a whole number with a sign
+unfoldable pub sumOf : ℕ → List ℕ → List ℕ → ℤ
+sumOf c [] xs = pos 0
+sumOf c (l ∷ ls) [] = pos 0
+sumOf c (l ∷ ls) (x ∷ xs) = pos x *ℤ entryOf l c +ℤ sumOf c ls xs
+
+-- as many fractions as line numbers, each line one of the table, and the fractions at most 1,000,100 in all
+pub record Composition (ls xs : List ℕ) : Type 0 where
+  pub same : length ls ≡ length xs
+  pub lines : (k : ℕ) → k < length ls → (1 ≤ getD ls k 0) × (getD ls k 0 ≤ 55)
+  pub sum : total xs ≤ 1000100

@@ -1,0 +1,44 @@
+-- The rule of document 01 over the whole component table.
+use mathlib.Core.Path.{_≡_}
+use mathlib.Core.Bool.{Bool, not, cond, _||_}
+use mathlib.Core.List.{List, [], _∷_}
+use Prim.Native.Nat.{ℕ, _+_, _-_, _≤_, _<_}
+use lib.Dec.{eqb}
+use lib.IntN.{ℤ, pos, natAbs, _*ℤ_, _-ℤ_}
+use lib.ListN.{getD}
+use lib.Signed.{nonNeg}
+use Rattle.components.specs.Table.{entryOf, summation, superior, inferior}
+
+-- the hydrogen atoms of a molecule of each line, ten lines a row
+unfoldable pub hydrogenAtoms : List ℕ
+hydrogenAtoms =
+    4 ∷ 6 ∷ 8 ∷ 10 ∷ 10 ∷ 12 ∷ 12 ∷ 12 ∷ 14 ∷ 14 ∷
+    14 ∷ 14 ∷ 14 ∷ 16 ∷ 18 ∷ 20 ∷ 22 ∷ 4 ∷ 6 ∷ 8 ∷
+    8 ∷ 8 ∷ 8 ∷ 10 ∷ 4 ∷ 6 ∷ 6 ∷ 2 ∷ 10 ∷ 12 ∷
+    14 ∷ 12 ∷ 14 ∷ 16 ∷ 6 ∷ 8 ∷ 10 ∷ 10 ∷ 4 ∷ 4 ∷
+    2 ∷ 2 ∷ 2 ∷ 3 ∷ 1 ∷ 0 ∷ 0 ∷ 0 ∷ 0 ∷ 0 ∷
+    0 ∷ 0 ∷ 0 ∷ 0 ∷ 0 ∷ []
+
+-- a of document 01
+abbrev pub atomsOf : ℕ → ℕ
+atomsOf l = getD hydrogenAtoms (l - 1) 0
+
+-- w of document 01: the superior h of water, line 42, at the t-th temperature
+abbrev pub water : ℕ → ℤ
+water t = entryOf 42 (superior t)
+
+-- 20, or 200 for the lines that are printed with one decimal
+unfoldable pub allowance : ℕ → ℕ
+allowance l = cond (eqb l 21 || eqb l 22 || eqb l 23 || eqb l 45) 200 20
+
+-- what holds of a line 1 to 55
+pub record Keeps (l : ℕ) : Type 0 where
+  -- 2 × (superior − inferior) differs from a × w at the same temperature by at most the allowance
+  pub hydrogen : (t : ℕ) → t < 4
+      → natAbs (pos 2 *ℤ (entryOf l (superior t) -ℤ entryOf l (inferior t)) -ℤ pos (atomsOf l) *ℤ water t) ≤ allowance l
+  -- every s lies strictly between −10,000 and 10,000
+  pub small : (k : ℕ) → k < 3 → natAbs (entryOf l (summation k)) < 10000
+  -- hydrogen, line 41, is negative at all three temperatures, and no other line is
+  pub sign : (k : ℕ) → k < 3 → nonNeg (entryOf l (summation k)) ≡ not (eqb l 41)
+  -- h is 0 for lines 49 to 55
+  pub inert : (c : ℕ) → c < 8 → 49 ≤ l → entryOf l (4 + c) ≡ pos 0
