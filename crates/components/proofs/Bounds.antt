@@ -7,7 +7,7 @@ use Prim.Native.Nat.{ℕ, _+_, _*_, _≤_, _<_}
 use native.Mathlib.Omega.{arith}
 use lib.Dec.{T, leb, leb→le}
 use lib.IntN.{ℤ, pos, natAbs}
-use Rattle.components.specs.Table.{table, entryOf, molarMass, summation}
+use Rattle.components.specs.Table.{componentTable, entryOf, molarMass, summation}
 use Rattle.components.specs.Composition.{Composition, total, fractionFor, sumOf}
 use Rattle.components.proofs.Every.{at}
 use Rattle.components.proofs.Entries.{Unsigned, entry-below, mass-below, summation-below}
@@ -24,15 +24,15 @@ factor : ℕ → Bool
 factor k = leb (natAbs (entryOf 1 (summation k))) 490
 
 heat-at : (c : ℕ) → c < 8 → (802600 ≤ natAbs (entryOf 1 (4 + c))) × (natAbs (entryOf 1 (4 + c)) ≤ 892970)
-unfolding least most table
+unfolding least most componentTable
 heat-at c h = (leb→le _ _ (at least 8 tt c h), leb→le _ _ (at most 8 tt c h))
 
 factor-at : (k : ℕ) → k < 3 → natAbs (entryOf 1 (summation k)) ≤ 490
-unfolding factor table
+unfolding factor componentTable
 factor-at k h = leb→le _ _ (at factor 3 tt k h)
 
 mass-is : natAbs (entryOf 1 molarMass) ≡ 160430
-unfolding table
+unfolding componentTable
 mass-is = refl
 
 -- where no number of the column is below 0, the size of the sum is the sum of the sizes

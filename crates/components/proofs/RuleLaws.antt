@@ -7,7 +7,7 @@ use lib.Dec.{T, leb, ltb, eqb, leb→le, ltb→lt}
 use lib.IntN.{ℤ, pos, negsuc, natAbs, _*ℤ_, _-ℤ_}
 use lib.Signed.{nonNeg}
 use borrow.Author.Tests.{le-ltb}
-use Rattle.components.specs.Table.{table, entryOf, summation, superior, inferior}
+use Rattle.components.specs.Table.{componentTable, entryOf, summation, superior, inferior}
 use Rattle.components.specs.Rule.{hydrogenAtoms, atomsOf, water, allowance, Keeps}
 use Rattle.components.proofs.Every.{at₂}
 
@@ -52,19 +52,19 @@ inert k c = ltb (suc k) 49 || isZero (entryOf (suc k) (4 + c))
 
 module _ (k : ℕ) (h : k < 55) where
   hydrogen-at : (t : ℕ) → t < 4 → T (hydrogen k t)
-  unfolding hydrogen table hydrogenAtoms allowance
+  unfolding hydrogen componentTable hydrogenAtoms allowance
   hydrogen-at t ht = at₂ hydrogen 55 4 tt k t h ht
 
   small-at : (j : ℕ) → j < 3 → T (small k j)
-  unfolding small table
+  unfolding small componentTable
   small-at j hj = at₂ small 55 3 tt k j h hj
 
   sign-at : (j : ℕ) → j < 3 → T (sign k j)
-  unfolding sign agree table
+  unfolding sign agree componentTable
   sign-at j hj = at₂ sign 55 3 tt k j h hj
 
   inert-at : (c : ℕ) → c < 8 → T (inert k c)
-  unfolding inert isZero table
+  unfolding inert isZero componentTable
   inert-at c hc = at₂ inert 55 8 tt k c h hc
 
   keeps : Keeps (suc k)

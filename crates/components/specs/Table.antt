@@ -13,8 +13,8 @@ abbrev line : ℕ → ℤ → ℤ → ℤ → ℕ → ℕ → ℕ → ℕ → �
 line m s0 s15 s20 hs25 hi25 hs20 hi20 hs15 hi15 hs0 hi0 =
     pos m ∷ s0 ∷ s15 ∷ s20 ∷ pos hs25 ∷ pos hi25 ∷ pos hs20 ∷ pos hi20 ∷ pos hs15 ∷ pos hi15 ∷ pos hs0 ∷ pos hi0 ∷ []
 
-unfoldable pub table : List (List ℤ)
-table =
+unfoldable pub componentTable : List (List ℤ)
+componentTable =
     line 160430 (pos 490) (pos 447) (pos 436) 890630 802600 891090 802650 891560 802690 892970 802820 ∷  -- 1 methane
     line 300700 (pos 1000) (pos 922) (pos 894) 1560690 1428640 1561410 1428740 1562140 1428840 1564340 1429120 ∷  -- 2 ethane
     line 440970 (pos 1453) (pos 1338) (pos 1288) 2219170 2043110 2220130 2043230 2221100 2043370 2224010 2043710 ∷  -- 3 propane
@@ -74,7 +74,7 @@ table =
 
 -- the number of a line 1 to 55 in a column 0 to 11
 abbrev pub entryOf : ℕ → ℕ → ℤ
-entryOf l c = getD (getD table (l - 1) []) c (pos 0)
+entryOf l c = getD (getD componentTable (l - 1) []) c (pos 0)
 
 -- the columns: m; s at the k-th of 0, 15 and 20 °C; h superior and h inferior at the t-th of 25, 20, 15 and 0 °C, each counted from 0
 abbrev pub molarMass : ℕ

@@ -20,7 +20,7 @@ module _ (c : tie.After-sum) where
   start = c .before .before .before
 
   same : sumOf (start .args .column) (start .args .lines .now) (start .args .fractions .now) ≡ pos (sizes (start .args .column) (start .args .lines .now) (start .args .fractions .now))
-  same = sum-is-sizes (start .args .column) (start .pre .1) (start .args .lines .now) (start .args .fractions .now)
+  same = sum-is-sizes (start .args .column) (start .pre .1 .1) (start .args .lines .now) (start .args .fractions .now)
 
   value : toZ w64 (ofZ w64 (c .sum .result)) ≡ pos (sizes (start .args .column) (start .args .lines .now) (start .args .fractions .now))
   value = toZ-ofZ (sfits-of (c .sum .ok)) ∙ c .sum .ensures ∙ same
@@ -29,7 +29,7 @@ cast-result : tie.Need-cast-result
 cast-result c =
     let a = start c .args in
     cast-pos _ _ (value c)
-    (omega (arith, sizes-high (a .column) 6842690 (λ l. entry-below l (a .column)) (a .lines .now) (a .fractions .now), start c .pre .0 .sum))
+    (omega (arith, sizes-high (a .column) 6842690 (λ l. entry-below l (a .column)) (a .lines .now) (a .fractions .now), start c .pre .1 .0 .sum))
 
 returns : tie.Need-returns
 returns c = ap (λ (z : ℤ). pos (natAbs z)) (value c) ∙ sym (same c)

@@ -1,7 +1,6 @@
--- The code's numbers are those of specs/ by computation, and each fits an i32.
+-- A number of the table fits an i32.
 use borrow.Author.Needs.{needs}
 use mir.Facts.{toZ-ofZ}
-use Rattle.components.specs.Table.{table}
 use Rattle.components.proofs.Entries.{entry-fits}
 use Rattle.components.proofs.entry.Statement.{statement}
 use Rattle.components.proofs.entry.Tie as tie
@@ -22,8 +21,7 @@ index-2-result : tie.Need-index-2-result
 index-2-result c = search needs
 
 returns : tie.Need-returns
-unfolding table
-returns c = toZ-ofZ (entry-fits (c .before .args .line) (c .before .args .column))
+returns c = rw (c .before .pre .0) (toZ-ofZ (entry-fits (c .before .args .line) (c .before .args .column)))
 
 pub entry-spec : {M : Type 1} → statement M
 entry-spec =

@@ -14,10 +14,10 @@ use Rattle.components.proofs.sum.Tie as tie
 
 -- a signed local is its bits
 abbrev Inv-loop : tie.InvT-loop
-Inv-loop lines fractions column sum₀ k₀ sum k = Summed column lines fractions (toZ w64 sum) k
+Inv-loop table lines fractions column sum₀ k₀ sum k = Summed column lines fractions (toZ w64 sum) k
 
 abbrev μ-loop : tie.MeasureT-loop
-μ-loop lines fractions column sum₀ k₀ sum k = length lines - k
+μ-loop table lines fractions column sum₀ k₀ sum k = length lines - k
 
 loop-holds : tie.Need-loop-holds Inv-loop μ-loop
 loop-holds c = nothing-summed _ _ _
@@ -34,8 +34,8 @@ shared-slice-read-entry c = omega arith
 entry-requires : tie.Need-entry-requires Inv-loop μ-loop
 entry-requires c κs =
     let p = c .before .before .before .before .before .before .pre in
-    let l = p .0 .lines (c .before .before .before .loop .k) (omega arith) in
-    (l .0, l .1, p .1)
+    let l = p .1 .0 .lines (c .before .before .before .loop .k) (omega arith) in
+    (p .0, (l .0, l .1, p .1 .1))
 
 module _ (c : tie.After-entry Inv-loop μ-loop) where
   abbrev at-loop : tie.At-loop Inv-loop μ-loop
@@ -50,7 +50,7 @@ module _ (c : tie.After-entry Inv-loop μ-loop) where
 
 add-product-requires : tie.Need-add-product-requires Inv-loop μ-loop
 add-product-requires c κs =
-    rw (n-is c) (next-fits _ _ _ _ _ (at-loop c .loop .inv) (start c .pre .0) (omega arith))
+    rw (n-is c) (omega (arith, next-fits _ _ _ _ _ (at-loop c .loop .inv) (start c .pre .1 .0) (omega arith)))
 
 add-k : tie.Need-add-k Inv-loop μ-loop
 add-k c = omega arith
@@ -65,7 +65,7 @@ loop-again c =
     let x = getD (start b .args .fractions .now) (at-loop b .loop .k) 0 in
     let e = c .add-product .ensures ∙ ap (λ (n : ℤ). s +ℤ pos x *ℤ n) (n-is b) in
     rw (toZ-ofZ {w = w64} {z = c .add-product .result} (sfits-of (c .add-product .ok)), e)
-    (next-summed _ _ _ _ _ (at-loop b .loop .inv) (start b .pre .0) (omega arith))
+    (next-summed _ _ _ _ _ (at-loop b .loop .inv) (start b .pre .1 .0) (omega arith))
 
 returns : tie.Need-returns Inv-loop μ-loop
 returns c = all-summed _ _ _ _ _ (c .before .loop .inv) (omega arith)
