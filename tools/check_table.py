@@ -1,87 +1,78 @@
 #!/usr/bin/env python3
 """Hold the component table against source document 002, and the document against itself.
 
-usage: tools/check_table.py [SCAN]     (from the repository's root; SCAN: the text of source document 002)
+usage: tools/check_table.py SCAN     (SCAN: the text of source document 002)
 
-Cuts tables 1 to 5 out of the scan, then:
+Cuts tables 1 to 5 out of the scan, then checks
   reading   each of the 660 numbers of crates/components/specs/Table.antt against the printed one;
   mass      table 1 against the atomic masses that the source prints under it;
-  factor    each s of table 2 against its z: s is the root of 1 - z, to the last digit of each;
-  hydrogen  superior - inferior of table 3 against half the hydrogen atoms times water's superior value;
-  table 4   (per kilogram) and table 5 (per cubic metre) recomputed from tables 1 and 3.
-Prints a count for each, and each figure that is not equal with its place. Every figure that differs by more than its
-rounding explains has to stand in KNOWN below, and the other way round; otherwise the exit status is 1.
+  factor    each s of table 2 against its z: s is the root of 1 - z, to its last digit;
+  hydrogen  2 x (superior - inferior) of table 3 against hydrogen atoms x water's superior value, by document 01's rule;
+  table 4   per kilogram, from table 3 and the molar mass before rounding, as its heading says;
+  table 5   per cubic metre, from table 3 and p / (R T).
+Each check prints how many figures are equal, how many differ by no more than the rounding of the printed figures that
+they come from, and how many otherwise; and, with its place, every figure that is not equal. The exit status is 1 unless
+the figures that differ otherwise, and those that cannot be checked, are just those of KNOWN.
 """
+import os
 import re
 import sys
 from decimal import Decimal as D
 
-# Where the scan does not print the number: (table, line, column) -> what it prints, what is meant. docs/MISPRINTS.md has each.
+# Where the scan does not show the number: (table, line, column) -> (what it shows, what is meant).
+# docs/MISPRINTS.md says what decides each.
 CORRECTED = {
     (2, 26, 1): ("02121", "0.2121"),
     (3, 23, 0): ("700.2", "2700.2"),
     (5, 6, 7): ("14596", "145.96"),
 }
-# What contradicts a recomputation by more than rounding explains. docs/MISPRINTS.md has each.
-KNOWN = {
-    ("factor", 41, "0"), ("factor", 41, "15"), ("factor", 41, "20"),
-    ("factor", 49, "0"), ("factor", 49, "15"), ("factor", 49, "20"),
-    ("factor", 50, "0"), ("factor", 50, "15"), ("factor", 50, "20"),
-}
+# What contradicts a check by more than rounding, or cannot be checked by it: (check, line). docs/MISPRINTS.md has each.
+KNOWN = {("mass", 49), ("mass", 50), ("mass", 51), ("factor", 41), ("factor", 49), ("factor", 50)}
 
-# atoms of a molecule of each line: C, H, O, N, S
 FORMULAS = """CH4 C2H6 C3H8 C4H10 C4H10 C5H12 C5H12 C5H12 C6H14 C6H14 C6H14 C6H14 C6H14 C7H16 C8H18 C9H20 C10H22 C2H4 C3H6
 C4H8 C4H8 C4H8 C4H8 C5H10 C3H4 C4H6 C4H6 C2H2 C5H10 C6H12 C7H14 C6H12 C7H14 C8H16 C6H6 C7H8 C8H10 C8H10 CH4O CH4S H2 H2O
 H2S H3N CHN CO COS CS2 He Ne Ar N2 O2 CO2 O2S""".split()
-MASSES = {"C": D("12.011"), "H": D("1.00794"), "O": D("15.9994"), "N": D("14.00674"), "S": D("32.066")}
-TEMPERATURES = ["25", "20", "15", "0"]
-PAIRS = ["15/15", "0/0", "15/0", "25/0", "20/20", "25/20"]
-
-
-def atoms(formula):
-    counts = dict.fromkeys("CHONS", 0)
-    for element, number in re.findall(r"([A-Z][a-z]?)(\d*)", formula):
-        if element not in counts:
-            return None
-        counts[element] += int(number or 1)
-    return counts
+ATOMIC_MASS = {"C": D("12.011"), "H": D("1.00794"), "O": D("15.9994"), "N": D("14.00674"), "S": D("32.066")}
+ONE_DECIMAL = (21, 22, 23, 45)  # the lines of table 3 that are printed with one decimal
+TEMPERATURES = ("25", "20", "15", "0")
+PAIRS = ("15/15", "0/0", "15/0", "25/0", "20/20", "25/20")
+KELVIN = {"0": D("273.15"), "15": D("288.15"), "20": D("293.15")}
+PRESSURE, GAS_CONSTANT = D("101.325"), D("8.314510")
 
 
 class Scan:
     """The scan's lines, read forward."""
 
     def __init__(self, path):
-        self.lines = [line.strip() for line in open(path, encoding="utf-8")]
+        with open(path, encoding="utf-8") as text:
+            self.lines = [line.strip() for line in text]
         self.at = 0
 
-    def seek(self, text):
-        while text not in self.lines[self.at]:
+    def skip_while(self, test):
+        while test(self.lines[self.at]):
             self.at += 1
 
-    def rows(self, first, last, width, value):
-        """Lines printed whole: the line's number, its name, and width numbers."""
+    def rows(self, first, last, width, number):
+        """Lines that are printed whole: the line's number, its name, and width numbers."""
         out = {}
         for line in range(first, last + 1):
-            while not re.match(rf"{line}\. ?\S", self.lines[self.at]):
-                self.at += 1
-            found = re.findall(value, self.lines[self.at].replace("|", " ").split(".", 1)[1])[-width:]
-            out[line] = [f.replace(" ", "").replace(",", ".") for f in found]
+            self.skip_while(lambda text: not re.match(rf"{line}\. ?\S", text))
+            text = self.lines[self.at].replace("|", " ").split(".", 1)[1]
+            out[line] = [plain(cell) for cell in re.findall(number, text)[-width:]]
             self.at += 1
         return out
 
     def columns(self, first, last, heights):
-        """A page torn into columns: the lines' numbers, their names, then one column under the other."""
-        while not re.fullmatch(rf"{first}\.", self.lines[self.at]):
-            self.at += 1
-        while not re.search(r"[^\W\d]{3}", self.lines[self.at]):
-            self.at += 1
-        while re.search(r"[^\W\d]{3}", self.lines[self.at]) or not self.lines[self.at]:
-            self.at += 1
+        """A page that is torn into columns: the lines' numbers, their names, then the columns one under the other."""
+        named = lambda text: re.search(r"[^\W\d]{3}", text)
+        self.skip_while(lambda text: text != f"{first}." and not (first == 1 and text.startswith("1. ")))
+        self.skip_while(lambda text: not named(text))
+        self.skip_while(lambda text: named(text) or not text)
         cells = []
         while len(cells) < sum(heights):
-            text = self.lines[self.at].replace(" ", "").replace(",", ".")
+            text = plain(self.lines[self.at])
             if text:
-                assert re.fullmatch(r"-?\d+(\.\d+)?", text), (self.at + 1, text)
+                assert re.fullmatch(r"-?\d+(\.\d+)?", text), f"line {self.at + 1} of the scan: {text}"
                 cells.append(text)
             self.at += 1
         out = {line: [] for line in range(first, last + 1)}
@@ -92,13 +83,15 @@ class Scan:
         return out
 
 
+def plain(text):
+    return text.replace(" ", "").replace(",", ".")
+
+
 def read(path):
-    """The five tables as printed: table -> line -> list of decimal strings."""
-    scan, tables = Scan(path), {1: {}, 2: {}, 3: {}, 4: {}, 5: {}}
-    # lines 1 to 14 of table 1 stand above its heading: names, then masses
-    scan.seek("16,043")
-    scan.at -= 40
-    tables[1].update(scan.columns_after(14) if hasattr(scan, "columns_after") else first_page(scan))
+    """The five tables as the scan shows them: table -> line -> list of decimals as text."""
+    scan, tables = Scan(path), {number: {} for number in range(1, 6)}
+    scan.skip_while(lambda text: not text.startswith("10. TA"))  # the chapter of tables
+    tables[1].update(scan.columns(1, 14, [14]))
     tables[1].update(scan.columns(15, 34, [20]))
     tables[1].update(scan.columns(35, 54, [20]))
     tables[1].update(scan.rows(55, 55, 1, r"\d+,\d+"))
@@ -116,22 +109,143 @@ def read(path):
     tables[5].update(scan.rows(1, 9, 12, heat))
     tables[5].update(scan.columns(10, 29, [20] * 12))
     tables[5].update(scan.columns(30, 48, [19] * 12))
+    for (table, line, column), (shown, meant) in CORRECTED.items():
+        assert tables[table][line][column] == shown, f"table {table}, line {line}: {tables[table][line][column]}"
+        tables[table][line][column] = meant
     return tables
 
 
-def first_page(scan):
-    scan.seek("16,043")
-    out, line = {}, 1
-    while line <= 14:
-        text = scan.lines[scan.at]
-        if text:
-            out[line] = [text.replace(",", ".")]
-            line += 1
-        scan.at += 1
-    return out
+def specified():
+    """The rows of the component table of specs/: line -> twelve whole numbers."""
+    path = os.path.join(os.path.dirname(__file__), "..", "crates", "components", "specs", "Table.antt")
+    with open(path, encoding="utf-8") as text:
+        rows = re.findall(r"^    line (.*) ∷  -- (\d+) ", text.read(), re.M)
+    signed = lambda row: re.sub(r"\((pos|neg) (\d+)\)", lambda m: m[2] if m[1] == "pos" else "-" + m[2], row)
+    return {int(line): [int(word) for word in signed(row).split()] for row, line in rows}
+
+
+def atoms(formula):
+    """How many atoms of each element a molecule has, or None where the source prints no atomic mass."""
+    counts = dict.fromkeys(ATOMIC_MASS, 0)
+    for element, number in re.findall(r"([A-Z][a-z]?)(\d*)", formula):
+        if element not in counts:
+            return None
+        counts[element] += int(number or 1)
+    return counts
+
+
+def mass(line):
+    counts = atoms(FORMULAS[line - 1])
+    return counts and sum(ATOMIC_MASS[element] * number for element, number in counts.items())
+
+
+def half_unit(text):
+    """Half a unit of the last digit of a printed number."""
+    return D(1).scaleb(-len(text.partition(".")[2])) / 2
+
+
+class Check:
+    """Counts the figures of one check, and keeps those that are not equal."""
+
+    def __init__(self, name):
+        self.name, self.equal, self.rounding, self.other, self.said = name, 0, 0, set(), []
+
+    def figure(self, line, place, printed, low, high):
+        """A printed figure, and the least and the greatest value that the figures it comes from allow."""
+        half, value = half_unit(printed), (low + high) / 2
+        if abs(D(printed) - value) <= half:
+            self.equal += 1
+            return
+        near = low - half <= D(printed) <= high + half
+        self.rounding += near
+        if not near:
+            self.other.add((self.name, line))
+        self.said.append(f"  line {line}, {place}: {printed}, recomputed {value:.6f}" + ("" if near else "  OTHERWISE"))
+
+    def unchecked(self, line, why):
+        self.other.add((self.name, line))
+        self.said.append(f"  line {line}: {why}  OTHERWISE")
+
+    def report(self):
+        print(f"{self.name}: {self.equal} equal, {self.rounding} by rounding, {len(self.said) - self.rounding} otherwise")
+        print(*self.said, sep="\n", end="\n" if self.said else "")
+        return self.other
+
+
+def reading(tables):
+    """The 660 numbers, by their printed text: whole multiples of the units of document 01."""
+    check, table = Check("reading"), specified()
+    for line in range(1, 56):
+        heats = tables[3].get(line, ["0"] * 8)
+        printed = [D(tables[1][line][0]) * 10000, *(D(tables[2][line][c]) * 10000 for c in (1, 3, 5)), *(D(h) * 1000 for h in heats)]
+        for column, (own, shown) in enumerate(zip(table[line], printed, strict=True)):
+            check.figure(line, f"column {column}", str(own), shown, shown)
+    return check.report()
+
+
+def masses(tables):
+    check = Check("mass")
+    for line, (printed,) in tables[1].items():
+        if mass(line):
+            check.figure(line, "molar mass", printed, mass(line), mass(line))
+        else:
+            check.unchecked(line, f"{printed}, an element with no atomic mass in the source")
+    return check.report()
+
+
+def factors(tables):
+    check = Check("factor")
+    for line, row in tables[2].items():
+        for place, z, s in zip(("0", "15", "20"), row[0::2], row[1::2]):
+            if D(z) <= 1:
+                check.figure(line, f"s at {place} °C", s, (1 - D(z)).sqrt(), (1 - D(z)).sqrt())
+            else:
+                check.unchecked(line, f"s at {place} °C is {s}, and z is {z}, above 1")
+    return check.report()
+
+
+def hydrogens(tables):
+    check = Check("hydrogen")
+    for line, row in tables[3].items():
+        for place, high, low, water in zip(TEMPERATURES, row[0::2], row[1::2], tables[3][42][0::2]):
+            slack = D("0.1") if line in ONE_DECIMAL else D("0.01")
+            half = atoms(FORMULAS[line - 1])["H"] * D(water) / 2
+            check.figure(line, f"superior - inferior at {place} °C", str(D(high) - D(low)), half - slack, half + slack)
+    return check.report()
+
+
+def per_kilogram(tables):
+    check = Check("table 4")
+    for line, row in tables[4].items():
+        for column, (printed, heat) in enumerate(zip(row, tables[3][line], strict=True)):
+            place = ("superior", "inferior")[column % 2] + f" at {TEMPERATURES[column // 2]} °C"
+            low, high = (D(heat) - half_unit(heat)) / mass(line), (D(heat) + half_unit(heat)) / mass(line)
+            check.figure(line, place, printed, low, high)
+    return check.report()
+
+
+def per_cubic_metre(tables):
+    check = Check("table 5")
+    for line, row in tables[5].items():
+        for column, printed in enumerate(row):
+            combustion, metering = PAIRS[column // 2].split("/")
+            heat = tables[3][line][2 * TEMPERATURES.index(combustion) + column % 2]
+            factor = PRESSURE / (GAS_CONSTANT * KELVIN[metering])
+            place = ("superior", "inferior")[column % 2] + f" at {PAIRS[column // 2]}"
+            check.figure(line, place, printed, (D(heat) - half_unit(heat)) * factor, (D(heat) + half_unit(heat)) * factor)
+    return check.report()
+
+
+def main():
+    if len(sys.argv) != 2:
+        sys.exit(__doc__)
+    tables = read(sys.argv[1])
+    print("tables 1 to 5:", sum(len(row) for table in tables.values() for row in table.values()), "figures,", len(CORRECTED), "corrected")
+    found = set().union(*(check(tables) for check in (reading, masses, factors, hydrogens, per_kilogram, per_cubic_metre)))
+    for name, line in sorted(found ^ KNOWN):
+        print(f"{name}, line {line}:", "not in KNOWN" if (name, line) in found else "in KNOWN, and not found")
+    sys.exit(1 if found != KNOWN else 0)
 
 
 if __name__ == "__main__":
-    t = read(sys.argv[1])
-    for k in t:
-        print(k, len(t[k]), {len(v) for v in t[k].values()})
+    main()

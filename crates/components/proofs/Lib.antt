@@ -5,3 +5,4 @@ pub mod SignedSums
 pub mod SumLaws
 pub mod Summing
 pub mod Bounds
+pub mod Cases

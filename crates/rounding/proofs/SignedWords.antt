@@ -36,25 +36,39 @@ pub minus-fits : (x : ℕ) → x < 2 ^ 63 → SFits w64 (pos 0 -ℤ toZ w64 x)
 minus-fits x h = subst⁻¹ (SFits w64) (minus-is x h) (fits64 (negℤ (pos x)) (omega (arith, natAbs-neg x)))
 
 -- the sign of a number, from the test of its bits
-module _ (n : ℤ) (f : SFits w64 n) where
-  pub is-below : ltZ (toZ w64 (ofZ w64 n)) (pos 0) ≡ true → n ≡ negℤ (pos (natAbs n))
-  is-below e = go n (rw (toZ-ofZ f) at e)
-    where
-      go : (z : ℤ) → ltZ z (pos 0) ≡ true → z ≡ negℤ (pos (natAbs z))
-      go (pos a) e = absurd (omega (arith, ltb-true a 0 e))
-      go (negsuc a) e = refl
+module _ (n : ℤ) (f : SFits w64 n) (small : natAbs n < 2 ^ 63) where
+  module _ (e : ltZ (toZ w64 (ofZ w64 n)) (pos 0) ≡ true) where
+    below : ltZ n (pos 0) ≡ true
+    below = rw (toZ-ofZ f) at e
 
-  pub not-below : ltZ (toZ w64 (ofZ w64 n)) (pos 0) ≡ false → n ≡ pos (natAbs n)
-  not-below e = go n (rw (toZ-ofZ f) at e)
-    where
-      go : (z : ℤ) → ltZ z (pos 0) ≡ false → z ≡ pos (natAbs z)
-      go (pos a) e = refl
-      go (negsuc a) e = absurd (subst (λ b. T b) e tt)
+    pub is-below : n ≡ negℤ (pos (natAbs n))
+    is-below = go n below
+      where
+        go : (z : ℤ) → ltZ z (pos 0) ≡ true → z ≡ negℤ (pos (natAbs z))
+        go (pos a) e = absurd (omega (arith, ltb-true a 0 e))
+        go (negsuc a) e = refl
 
-  -- the opposite of a number below 0
-  pub opposite : ltZ (toZ w64 (ofZ w64 n)) (pos 0) ≡ true → pos 0 -ℤ toZ w64 (ofZ w64 n) ≡ pos (natAbs n)
-  opposite e = ap (λ (z : ℤ). pos 0 -ℤ z) (toZ-ofZ f) ∙ go n (rw (toZ-ofZ f) at e)
-    where
-      go : (z : ℤ) → ltZ z (pos 0) ≡ true → pos 0 -ℤ z ≡ pos (natAbs z)
-      go (pos a) e = absurd (omega (arith, ltb-true a 0 e))
-      go (negsuc a) e = ap pos (zero-add (suc a))
+    opposite : pos 0 -ℤ toZ w64 (ofZ w64 n) ≡ pos (natAbs n)
+    opposite = ap (λ (z : ℤ). pos 0 -ℤ z) (toZ-ofZ f) ∙ go n below
+      where
+        go : (z : ℤ) → ltZ z (pos 0) ≡ true → pos 0 -ℤ z ≡ pos (natAbs z)
+        go (pos a) e = absurd (omega (arith, ltb-true a 0 e))
+        go (negsuc a) e = ap pos (zero-add (suc a))
+
+    -- 0 - n, as the machine negates: it fits, and is the size of n
+    pub opposite-fits : SFits w64 (pos 0 -ℤ toZ w64 (ofZ w64 n))
+    opposite-fits = rw opposite (fits64 _ small)
+
+    pub opposite-is : toZ w64 (ofZ w64 (pos 0 -ℤ toZ w64 (ofZ w64 n))) ≡ pos (natAbs n)
+    opposite-is = toZ-ofZ opposite-fits ∙ opposite
+
+  module _ (e : ltZ (toZ w64 (ofZ w64 n)) (pos 0) ≡ false) where
+    pub not-below : n ≡ pos (natAbs n)
+    not-below = go n (rw (toZ-ofZ f) at e)
+      where
+        go : (z : ℤ) → ltZ z (pos 0) ≡ false → z ≡ pos (natAbs z)
+        go (pos a) e = refl
+        go (negsuc a) e = absurd (subst (λ b. T b) e tt)
+
+    pub value-is : toZ w64 (ofZ w64 n) ≡ pos (natAbs n)
+    value-is = toZ-ofZ f ∙ not-below

@@ -3,14 +3,12 @@ use Prim.Native.Nat.{ℕ, _<_, _^_}
 use native.Mathlib.Nat.{le-mul-of-pos-right}
 use native.Mathlib.Omega.{arith}
 use borrow.Author.Needs.{needs}
-use lib.IntN.{ℤ, pos, negℤ, natAbs, _-ℤ_}
-use mir.Syntax.{w64}
-use mir.Val.{toZ, ofZ}
+use lib.IntN.{ℤ, pos, negℤ, natAbs}
 use mir.Facts.{toZ-ofZ}
 use Rattle.rounding.specs.Near.{nearZ}
 use Rattle.rounding.proofs.NearLaws.{nearZ-half, nearZ-pos, at-most}
 use Rattle.rounding.proofs.Signs.{natAbs-neg}
-use Rattle.rounding.proofs.SignedWords.{fits64, toZ-pos, cast-pos, minus-is, minus-fits, is-below, not-below, opposite}
+use Rattle.rounding.proofs.SignedWords.{fits64, toZ-pos, cast-pos, minus-is, minus-fits, is-below, not-below, opposite-fits, opposite-is, value-is}
 use Rattle.rounding.proofs.nearest_signed.Statement.{statement}
 use Rattle.rounding.proofs.nearest_signed.Tie as tie
 
@@ -19,15 +17,10 @@ size : (n : ℤ) (q : ℕ) → (0 < q) × (natAbs n < 9223372036854775808) → n
 size n q (h, small) = omega (arith, at-most {b = natAbs n} (nearZ-half n q h) (le-mul-of-pos-right (natAbs n) h))
 
 sub-nearest-below-zero : tie.Need-sub-nearest-below-zero
-sub-nearest-below-zero c =
-    rw (opposite (c .before .args .n) (c .before .fits .n) (c .if1 .taken)) (fits64 _ (c .before .pre .1))
-
--- -n, which is not below 0
-opposite-is : (c : tie.Then1) → toZ w64 (ofZ w64 (pos 0 -ℤ toZ w64 (ofZ w64 (c .before .args .n)))) ≡ pos (natAbs (c .before .args .n))
-opposite-is c = toZ-ofZ (sub-nearest-below-zero c) ∙ opposite (c .before .args .n) (c .before .fits .n) (c .if1 .taken)
+sub-nearest-below-zero c = opposite-fits _ (c .before .fits .n) (c .before .pre .1) (c .if1 .taken)
 
 cast-nearest-below-zero : tie.Need-cast-nearest-below-zero
-cast-nearest-below-zero c = cast-pos _ _ (opposite-is c) (c .before .pre .1)
+cast-nearest-below-zero c = cast-pos _ _ (opposite-is _ (c .before .fits .n) (c .before .pre .1) (c .if1 .taken)) (c .before .pre .1)
 
 nearest-below-zero-requires : tie.Need-nearest-below-zero-requires
 nearest-below-zero-requires c κs = search needs
@@ -35,9 +28,10 @@ nearest-below-zero-requires c κs = search needs
 below : (c : tie.After-nearest-below-zero) → negℤ (pos (c .nearest-below-zero .result)) ≡ nearZ (c .before .before .args .n) (c .before .before .args .q)
 below c =
     let s = c .before .before in
+    let t = c .before .if1 .taken in
     c .nearest-below-zero .ensures
-    ∙ ap (λ (z : ℤ). nearZ (negℤ (pos (natAbs z))) (s .args .q)) (opposite-is (c .before))
-    ∙ ap (λ (z : ℤ). nearZ z (s .args .q)) (sym (is-below (s .args .n) (s .fits .n) (c .before .if1 .taken)))
+    ∙ ap (λ (z : ℤ). nearZ (negℤ (pos (natAbs z))) (s .args .q)) (opposite-is _ (s .fits .n) (s .pre .1) t)
+    ∙ ap (λ (z : ℤ). nearZ z (s .args .q)) (sym (is-below (s .args .n) (s .fits .n) (s .pre .1) t))
 
 below-size : (c : tie.After-nearest-below-zero) → c .nearest-below-zero .result < 2 ^ 63
 below-size c = rw (← below c, natAbs-neg) at (size (c .before .before .args .n) (c .before .before .args .q) (c .before .before .pre))
@@ -48,11 +42,8 @@ cast-result c = fits64 _ (below-size c)
 sub-result : tie.Need-sub-result
 sub-result c = minus-fits _ (below-size c)
 
-n-is : (c : tie.Else1) → toZ w64 (ofZ w64 (c .before .args .n)) ≡ pos (natAbs (c .before .args .n))
-n-is c = toZ-ofZ (c .before .fits .n) ∙ not-below (c .before .args .n) (c .before .fits .n) (c .if1 .left)
-
 cast-nearest : tie.Need-cast-nearest
-cast-nearest c = cast-pos _ _ (n-is c) (c .before .pre .1)
+cast-nearest c = cast-pos _ _ (value-is _ (c .before .fits .n) (c .before .pre .1) (c .if1 .left)) (c .before .pre .1)
 
 nearest-requires : tie.Need-nearest-requires
 nearest-requires c κs = search needs
@@ -60,9 +51,11 @@ nearest-requires c κs = search needs
 above : (c : tie.After-nearest) → pos (c .nearest .result) ≡ nearZ (c .before .before .args .n) (c .before .before .args .q)
 above c =
     let s = c .before .before in
+    let l = c .before .if1 .left in
     ap pos (c .nearest .ensures)
     ∙ sym (nearZ-pos _ (s .args .q))
-    ∙ ap (λ (z : ℤ). nearZ z (s .args .q)) (ap (λ (z : ℤ). pos (natAbs z)) (n-is (c .before)) ∙ sym (not-below (s .args .n) (s .fits .n) (c .before .if1 .left)))
+    ∙ ap (λ (z : ℤ). nearZ (pos (natAbs z)) (s .args .q)) (value-is _ (s .fits .n) (s .pre .1) l)
+    ∙ ap (λ (z : ℤ). nearZ z (s .args .q)) (sym (not-below (s .args .n) (s .fits .n) (s .pre .1) l))
 
 above-size : (c : tie.After-nearest) → c .nearest .result < 2 ^ 63
 above-size c = rw (← above c) at (size (c .before .before .args .n) (c .before .before .args .q) (c .before .before .pre))
