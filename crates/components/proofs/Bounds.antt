@@ -3,12 +3,12 @@ use mathlib.Core.Path.{_≡_, refl, ap}
 use mathlib.Core.Bool.{Bool}
 use mathlib.Core.Logic.{inl, inr}
 use mathlib.Core.List.{List}
-use Prim.Native.Nat.{ℕ, _+_, _*_, _≤_, _<_}
+use Prim.Native.Nat.{ℕ, _+_, _≤_, _<_}
 use native.Mathlib.Omega.{arith}
-use lib.Dec.{T, leb, leb→le}
-use lib.IntN.{ℤ, pos, natAbs}
+use lib.Dec.{leb, leb→le}
+use lib.IntN.{natAbs}
 use Rattle.components.specs.Table.{componentTable, entryOf, molarMass, summation}
-use Rattle.components.specs.Composition.{Composition, total, fractionFor, sumOf}
+use Rattle.components.specs.Composition.{Composition, fractionFor, sumOf}
 use Rattle.components.proofs.Every.{at}
 use Rattle.components.proofs.Entries.{Unsigned, entry-below, mass-below, summation-below}
 use Rattle.components.proofs.SumLaws.{sizes, sum-is-sizes, sum-within-sizes, share-low, share-high}

@@ -4,5 +4,6 @@ pub mod Entries
 pub mod SignedSums
 pub mod SumLaws
 pub mod Summing
+pub mod AllLines
 pub mod Bounds
 pub mod Cases

@@ -1,10 +1,10 @@
 -- Sums over a composition: one entry more, the size, and the share of one line.
-use mathlib.Core.Path.{_≡_, refl, sym, ap, _∙_}
+use mathlib.Core.Path.{_≡_, refl}
 use mathlib.Core.Bool.{Bool, true, false, cond}
 use mathlib.Core.List.{List, [], _∷_}
 use Prim.Native.Nat.{ℕ, _+_, _*_, _≤_, _<_, zero-le}
 use native.Mathlib.Numerals.{add-one}
-use native.Mathlib.Nat.{mul-le-mul-left, le-refl}
+use native.Mathlib.Nat.{mul-le-mul-left}
 use native.Mathlib.Omega.{arith}
 use lib.Dec.{T, eqb, eqb→eq}
 use lib.IntN.{ℤ, pos, natAbs, _+ℤ_, _*ℤ_, +ℤ-assoc, +ℤ-idr}

@@ -2,7 +2,7 @@
 use mathlib.Core.Path.{_≡_}
 use mathlib.Core.Bool.{cond}
 use mathlib.Core.List.{List, [], _∷_}
-use Prim.Native.Nat.{ℕ, _+_, _≤_, _<_}
+use Prim.Native.Nat.{ℕ, zero, suc, _+_, _≤_, _<_}
 use lib.Dec.{eqb}
 use lib.IntN.{ℤ, pos, _+ℤ_, _*ℤ_}
 use lib.ListN.{getD, length}
@@ -24,6 +24,16 @@ unfoldable pub sumOf : ℕ → List ℕ → List ℕ → ℤ
 sumOf c [] xs = pos 0
 sumOf c (l ∷ ls) [] = pos 0
 sumOf c (l ∷ ls) (x ∷ xs) = pos x *ℤ entryOf l c +ℤ sumOf c ls xs
+
+-- the same over the lines 1 to n, an absent line having fraction 0
+unfoldable pub overLines : ℕ → ℕ → List ℕ → List ℕ → ℤ
+overLines c zero ls xs = pos 0
+overLines c (suc n) ls xs = pos (fractionFor (suc n) ls xs) *ℤ entryOf (suc n) c +ℤ overLines c n ls xs
+
+-- each line number is above the one before, and at most 55
+unfoldable pub Ascending : ℕ → List ℕ → Type 0
+Ascending before [] = Unit
+Ascending before (l ∷ ls) = (before < l) × (l ≤ 55) × Ascending l ls
 
 -- as many fractions as line numbers, each line one of the table, and the fractions at most 1,000,100 in all
 pub record Composition (ls xs : List ℕ) : Type 0 where

@@ -1,5 +1,5 @@
 -- Distances add up, and are multiplied with what they measure.
-use Prim.Native.Nat.{ℕ, _+_, _*_, _≤_, _<_}
+use Prim.Native.Nat.{ℕ, _+_, _*_}
 use native.Mathlib.Nat.{mul-le-mul-right, mul-pos}
 use native.Mathlib.Omega.{arith}
 use Rattle.rounding.specs.Fraction.{Fraction, Within, whole, plus, times}

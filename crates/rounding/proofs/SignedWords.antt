@@ -1,12 +1,12 @@
 -- Signed words of 64 bits: what fits, and what a test of the sign tells.
 use mathlib.Core.Path.{_≡_, refl, ap, _∙_, subst, subst⁻¹}
 use mathlib.Core.Bool.{true, false}
-use Prim.Native.Nat.{ℕ, zero, suc, _≤_, _<_, _^_}
-use native.Mathlib.Nat.{zero-add, lt-of-le-of-lt, le-refl}
+use Prim.Native.Nat.{ℕ, _≤_, _<_, _^_}
+use native.Mathlib.Nat.{lt-of-le-of-lt, le-refl}
 use native.Mathlib.Omega.{arith}
 use borrow.Author.Tests.{ltb-true}
 use lib.Dec.{T}
-use lib.IntN.{ℤ, pos, negsuc, negℤ, natAbs, _-ℤ_, +ℤ-idl}
+use lib.IntN.{ℤ, pos, negsuc, negℤ, natAbs, _-ℤ_, +ℤ-idl, negℤ-negℤ}
 use lib.Signed.{mag, ltZ, nonNeg}
 use mir.Syntax.{w64}
 use mir.Val.{Fits, SFits, toZ, ofZ}
@@ -38,22 +38,15 @@ minus-fits x h = subst⁻¹ (SFits w64) (minus-is x h) (fits64 (negℤ (pos x)) 
 -- the sign of a number, from the test of its bits
 module _ (n : ℤ) (f : SFits w64 n) (small : natAbs n < 2 ^ 63) where
   module _ (e : ltZ (toZ w64 (ofZ w64 n)) (pos 0) ≡ true) where
-    below : ltZ n (pos 0) ≡ true
-    below = rw (toZ-ofZ f) at e
-
     pub is-below : n ≡ negℤ (pos (natAbs n))
-    is-below = go n below
+    is-below = go n (rw (toZ-ofZ f) at e)
       where
         go : (z : ℤ) → ltZ z (pos 0) ≡ true → z ≡ negℤ (pos (natAbs z))
         go (pos a) e = absurd (omega (arith, ltb-true a 0 e))
         go (negsuc a) e = refl
 
     opposite : pos 0 -ℤ toZ w64 (ofZ w64 n) ≡ pos (natAbs n)
-    opposite = ap (λ (z : ℤ). pos 0 -ℤ z) (toZ-ofZ f) ∙ go n below
-      where
-        go : (z : ℤ) → ltZ z (pos 0) ≡ true → pos 0 -ℤ z ≡ pos (natAbs z)
-        go (pos a) e = absurd (omega (arith, ltb-true a 0 e))
-        go (negsuc a) e = ap pos (zero-add (suc a))
+    opposite = ap (λ (z : ℤ). pos 0 -ℤ z) (toZ-ofZ f) ∙ +ℤ-idl (negℤ n) ∙ ap negℤ is-below ∙ negℤ-negℤ (pos (natAbs n))
 
     -- 0 - n, as the machine negates: it fits, and is the size of n
     pub opposite-fits : SFits w64 (pos 0 -ℤ toZ w64 (ofZ w64 n))

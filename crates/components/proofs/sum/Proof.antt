@@ -1,5 +1,5 @@
 use mathlib.Core.Path.{_≡_, ap, _∙_}
-use Prim.Native.Nat.{ℕ, _-_}
+use Prim.Native.Nat.{_-_}
 use native.Mathlib.Omega.{arith}
 use borrow.Author.Needs.{sfits-of}
 use lib.IntN.{ℤ, pos, _+ℤ_, _*ℤ_}
