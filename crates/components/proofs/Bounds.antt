@@ -7,10 +7,10 @@ use Prim.Native.Nat.{ℕ, _+_, _≤_, _<_}
 use native.Mathlib.Omega.{arith}
 use lib.Dec.{leb, leb→le}
 use lib.IntN.{natAbs}
-use Rattle.components.specs.Table.{componentTable, entryOf, molarMass, summation}
+use Rattle.components.specs.Table.{componentTable, entryOf, molarMass, summation, Unsigned}
 use Rattle.components.specs.Composition.{Composition, fractionFor, sumOf}
 use Rattle.components.proofs.Every.{at}
-use Rattle.components.proofs.Entries.{Unsigned, entry-below, mass-below, summation-below}
+use Rattle.components.proofs.Entries.{entry-below, mass-below, summation-below}
 use Rattle.components.proofs.SumLaws.{sizes, sum-is-sizes, sum-within-sizes, share-low, share-high}
 
 -- methane's numbers: calorific values from 802.60 to 892.97 kJ/mol, molar mass 16.043, summation factors up to 0.0490

@@ -14,7 +14,7 @@ use borrow.Author.Tests.{le-ltb}
 use mir.Syntax.{w32}
 use mir.Val.{SFits}
 use Rattle.rounding.proofs.SignedWords.{mag≤}
-use Rattle.components.specs.Table.{componentTable, entryOf, molarMass, summation}
+use Rattle.components.specs.Table.{componentTable, entryOf, molarMass, summation, Unsigned}
 use Rattle.components.proofs.Every.{at, every, all, all-at}
 
 -- a test of a row passes at every row
@@ -47,10 +47,6 @@ summation-below k h l =
 
 pub entry-fits : (l c : ℕ) → SFits w32 (entryOf l c)
 entry-fits l c = record { sfits = lt-of-le-of-lt (mag≤ (entryOf l c)) (omega (arith, entry-below l c)) }
-
--- a column of molar mass or calorific value
-abbrev pub Unsigned : ℕ → Type 0
-Unsigned c = (c < 12) × ((c < 1) ⊎ (3 < c))
 
 unsigned : List ℤ → ℕ → Bool
 unsigned row c = (ltb 0 c && ltb c 4) || nonNeg (getD row c (pos 0))

@@ -11,9 +11,9 @@ use lib.IntN.{ℤ, pos, natAbs, _+ℤ_, _*ℤ_, +ℤ-assoc, +ℤ-idr}
 use lib.ListN.{length, getD, drop, drop-of-length-le}
 use lib.Seq.{drop-cons}
 use lib.Signed.{pos-natAbs}
-use Rattle.components.specs.Table.{entryOf}
+use Rattle.components.specs.Table.{entryOf, Unsigned}
 use Rattle.components.specs.Composition.{total, fractionFor, sumOf}
-use Rattle.components.proofs.Entries.{Unsigned, not-negative}
+use Rattle.components.proofs.Entries.{not-negative}
 use Rattle.components.proofs.SignedSums.{natAbs-add, natAbs-mul}
 
 pub total-step : (xs : List ℕ) (k : ℕ) → k < length xs → total (drop k xs) ≡ getD xs k 0 + total (drop (k + 1) xs)

@@ -1,6 +1,7 @@
 -- The component table of document 01: tables 1 to 3 of source document 002, 55 lines of twelve columns, 660 numbers.
 use mathlib.Core.List.{List, [], _∷_}
-use Prim.Native.Nat.{ℕ, _+_, _-_, _*_}
+use mathlib.Core.Logic.{_⊎_}
+use Prim.Native.Nat.{ℕ, _+_, _-_, _*_, _<_}
 use lib.IntN.{ℤ, pos, negℤ}
 use lib.ListN.{getD}
 
@@ -88,3 +89,7 @@ superior t = 4 + 2 * t
 
 abbrev pub inferior : ℕ → ℕ
 inferior t = 5 + 2 * t
+
+-- a column of molar mass or of h, which has no number below 0
+abbrev pub Unsigned : ℕ → Type 0
+Unsigned c = (c < 12) × ((c < 1) ⊎ (3 < c))

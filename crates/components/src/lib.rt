@@ -1,9 +1,8 @@
 // The component table of ISO 6976:1995, and sums of fraction times column over a composition.
 ghost use mathlib.Core.Path.{_≡_};
-ghost use mathlib.Core.Logic.{_⊎_};
 ghost use Prim.Native.Nat.{_+_, _*_, _≤_, _<_};
 ghost use lib.IntN.{natAbs, pos, _+ℤ_, _*ℤ_};
-ghost use Rattle.components.specs.Table.{componentTable, entryOf};
+ghost use Rattle.components.specs.Table.{componentTable, entryOf, Unsigned};
 ghost use Rattle.components.specs.Composition.{Composition, sumOf};
 
 mod table;
@@ -53,7 +52,7 @@ pub fn sum(table: &[[i32; 12]; 55], lines: &[u8], fractions: &[u32], column: usi
 pub fn amount(table: &[[i32; 12]; 55], lines: &[u8], fractions: &[u32], column: usize) -> u64
     requires { ⌜ now table ≡ componentTable ⌝ }
     requires { ⌜ Composition (now lines) (now fractions) ⌝ }
-    requires { ⌜ (column < 12) × ((column < 1) ⊎ (3 < column)) ⌝ }
+    requires { ⌜ Unsigned column ⌝ }
     ensures { λ r. ⌜ pos r ≡ sumOf column (now (lines .entry)) (now (fractions .entry)) ⌝ }
 {
     sum(table, lines, fractions, column) as u64

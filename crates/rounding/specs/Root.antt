@@ -1,7 +1,7 @@
 -- The integer square root: the greatest whole number whose square is at most n.
-use Prim.Native.Nat.{ℕ, zero, suc, _+_, _*_, _^_, _≤_, _<_}
+use Prim.Native.Nat.{ℕ, zero, suc, _+_, _*_, _/_, _^_, _≤_, _<_}
 use mathlib.Core.Bool.{cond}
-use lib.Dec.{leb}
+use lib.Dec.{eqb, leb, ltb}
 
 -- r is the integer root of n: r² ≤ n, and the next number's square is above n
 pub record Root (r n : ℕ) : Type 0 where
@@ -16,3 +16,14 @@ rootFrom (suc k) n c = rootFrom k n (cond (leb ((c + 2 ^ k) * (c + 2 ^ k)) n) (c
 -- the integer root of every n below 2^64 (`root-is`): its 32 bits
 unfoldable pub root : ℕ → ℕ
 root n = rootFrom 32 n 0
+
+-- The rounds of a bisection of the numbers from lo to below hi. Each round tries the middle; the round that tries r is the
+-- last, and no more than k are made.
+unfoldable pub roundsTo : ℕ → ℕ → ℕ → ℕ → ℕ
+roundsTo r zero lo hi = 0
+roundsTo r (suc k) lo hi =
+    let c = (lo + hi) / 2 in suc (cond (eqb c r) 0 (cond (ltb r c) (roundsTo r k lo c) (roundsTo r k (c + 1) hi)))
+
+-- the rounds of the search for the integer root of n: 33 are enough for every n below 2^64
+unfoldable pub rootRounds : ℕ → ℕ
+rootRounds n = roundsTo (root n) 33 0 4294967296

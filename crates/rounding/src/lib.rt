@@ -4,7 +4,7 @@ ghost use Prim.Native.Nat.{_≤_, _<_};
 ghost use lib.IntN.{pos, negℤ, natAbs};
 ghost use Rattle.rounding.specs.Near.{near, nearZ};
 ghost use Rattle.rounding.specs.Wide.{Wide, dividend};
-ghost use Rattle.rounding.specs.Root.{root};
+ghost use Rattle.rounding.specs.Root.{root, rootRounds};
 
 // The whole number nearest to n / q, halves upward. n is not doubled, so every n has an answer.
 pub fn nearest(n: u64, q: u64) -> u64
@@ -58,6 +58,7 @@ pub struct Rooted {
 // search ends with the round whose candidate is the root.
 pub fn root_search(n: u64) -> Rooted
     ensures right { λ r. ⌜ r .root ≡ root n ⌝ }
+    ensures counted { λ r. ⌜ r .rounds ≡ rootRounds n ⌝ }
     ensures few { λ r. ⌜ r .rounds ≤ 33 ⌝ }
 {
     let mut lo: u64 = 0;

@@ -1,8 +1,7 @@
-use Prim.Native.Nat.{_-_}
+use Prim.Native.Nat.{_+_, _-_, _/_}
 use native.Mathlib.Omega.{arith}
-use borrow.Author.Needs.{needs}
-use Rattle.rounding.proofs.Bisection.{Bracket, order, few, lower, upper, middle-below, square-fits}
-use Rattle.rounding.proofs.RootLaws.{root-is, root-unique}
+use Rattle.rounding.specs.Root.{Root}
+use Rattle.rounding.proofs.Bisection.{Bracket, whole-bracket, order, few, lower, upper, middle-below, square-fits, found, counted}
 use Rattle.rounding.proofs.root_search.Statement.{statement}
 use Rattle.rounding.proofs.root_search.Tie as tie
 
@@ -13,7 +12,7 @@ abbrev μ-loop : tie.MeasureT-loop
 μ-loop n lo₀ hi₀ rounds₀ lo hi rounds = hi - lo
 
 loop-holds : tie.Need-loop-holds Inv-loop μ-loop
-loop-holds c = search needs
+loop-holds c = whole-bracket _ (omega arith)
 
 add-c : tie.Need-add-c Inv-loop μ-loop
 add-c c = omega (arith, order (c .loop .inv))
@@ -34,10 +33,10 @@ mul-if2 : tie.Need-mul-if2 Inv-loop μ-loop
 mul-if2 c = omega (arith, middle-below (c .before .loop .inv))
 
 returns : tie.Need-returns Inv-loop μ-loop
-returns c = (
-  root-unique (record { square = omega arith; next = omega arith }) (root-is _ (omega arith)),
-  omega (arith, few (c .before .before .loop .inv)),
-)
+returns c =
+    let b = c .before .before .loop .inv in
+    let r : Root ((c .before .before .loop .lo + c .before .before .loop .hi) / 2) (c .before .before .before .args .n) = record { square = omega arith; next = omega arith } in
+    (found b r, (counted b r, omega (arith, few b)))
 
 add-lo : tie.Need-add-lo Inv-loop μ-loop
 add-lo c = omega (arith, middle-below (c .before .before .loop .inv))
