@@ -10,7 +10,7 @@ use native.Mathlib.Omega.{arith}
 use borrow.Author.Tests.{eq-eqb, ne-eqb}
 use lib.IntN.{ℤ, pos, _+ℤ_, _*ℤ_, +ℤ-assoc, +ℤ-comm, +ℤ-idl, zero-*ℤ}
 use Rattle.components.specs.Table.{entryOf}
-use Rattle.components.specs.Composition.{fractionFor, sumOf, overLines, Ascending}
+use Rattle.components.specs.Composition.{fractionFor, sumOf, overLines, Ascending, SumsRunOverAllLines}
 
 -- the fraction of a line is that of the first entry where it is the line's, and that of the others where it is not
 found : (k l x : ℕ) (ls xs : List ℕ) → l ≡ k → fractionFor k (l ∷ ls) (x ∷ xs) ≡ x
@@ -68,5 +68,5 @@ over-lines c before (l ∷ ls) [] a = none c 55 (l ∷ ls) [] (λ k. refl)
 over-lines c before (l ∷ ls) (x ∷ xs) a =
     with-own c l x ls xs 55 (a .2) (omega (arith, a .0)) (a .1) ∙ ap (λ (z : ℤ). pos x *ℤ entryOf l c +ℤ z) (over-lines c l ls xs (a .2))
 
-pub sum-over-all-lines : (c : ℕ) (ls xs : List ℕ) → Ascending 0 ls → overLines c 55 ls xs ≡ sumOf c ls xs
-sum-over-all-lines c ls xs a = over-lines c 0 ls xs a
+pub sums-run-over-all-lines : SumsRunOverAllLines
+sums-run-over-all-lines c ls xs a = over-lines c 0 ls xs a

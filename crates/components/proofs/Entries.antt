@@ -1,10 +1,9 @@
 -- Bounds over all numbers of the table, and the 0 that stands for one outside of it, each computed once.
-use mathlib.Core.Path.{_≡_, ap, _∙_, subst}
 use mathlib.Core.List.{List, []}
-use mathlib.Core.Logic.{_⊎_, ⊎-elim}
-use mathlib.Core.Bool.{Bool, false, _&&_, _||_, and-false}
+use mathlib.Core.Logic.{⊎-elim}
+use mathlib.Core.Bool.{Bool, _||_}
 use Prim.Native.Nat.{ℕ, _-_, _≤_, _<_}
-use native.Mathlib.Nat.{lt-of-le-of-lt, le-of-suc-le-suc}
+use native.Mathlib.Nat.{lt-of-le-of-lt}
 use native.Mathlib.Omega.{arith}
 use lib.Dec.{T, leb, ltb, leb→le}
 use lib.IntN.{ℤ, pos, natAbs}
@@ -14,33 +13,41 @@ use borrow.Author.Tests.{le-ltb}
 use mir.Syntax.{w32}
 use mir.Val.{SFits}
 use Rattle.rounding.proofs.SignedWords.{mag≤}
-use Rattle.components.specs.Table.{componentTable, entryOf, molarMass, summation, Unsigned}
-use Rattle.components.proofs.Every.{at, every, all, all-at}
+use Rattle.components.specs.Table.{componentTable, entryOf, molarMass, summation, Heat, Unsigned}
+use Rattle.components.proofs.Every.{at, every, all, all-at, unless}
 
 -- a test of a row passes at every row
 row-at : (f : List ℤ → Bool) → T (all f componentTable) → T (f []) → (l : ℕ) → T (f (getD componentTable (l - 1) []))
 row-at f t e l = all-at f componentTable [] t e (l - 1)
 
--- the largest number: n-decane, superior, 0 °C
-low : ℤ → Bool
-low z = leb (natAbs z) 6842690
+-- the largest number, n-decane's superior h at 0 °C; the largest molar mass, n-decane's; the bound of document 01's s
+abbrev pub largest : ℕ
+largest = 6842690
 
-pub entry-below : (l c : ℕ) → natAbs (entryOf l c) ≤ 6842690
+abbrev pub heaviest : ℕ
+heaviest = 1422850
+
+abbrev pub greatest-s : ℕ
+greatest-s = 9999
+
+low : ℤ → Bool
+low z = leb (natAbs z) largest
+
+pub entry-below : (l c : ℕ) → natAbs (entryOf l c) ≤ largest
 unfolding low componentTable
 entry-below l c = leb→le _ _ (all-at low (getD componentTable (l - 1) []) (pos 0) (row-at (all low) tt tt l) tt c)
 
--- the largest molar mass: n-decane
 light : List ℤ → Bool
-light row = leb (natAbs (getD row molarMass (pos 0))) 1422850
+light row = leb (natAbs (getD row molarMass (pos 0))) heaviest
 
-pub mass-below : (l : ℕ) → natAbs (entryOf l molarMass) ≤ 1422850
+pub mass-below : (l : ℕ) → natAbs (entryOf l molarMass) ≤ heaviest
 unfolding light componentTable
 mass-below l = leb→le _ _ (row-at light tt tt l)
 
 summable : List ℤ → ℕ → Bool
-summable row k = leb (natAbs (getD row (summation k) (pos 0))) 9999
+summable row k = leb (natAbs (getD row (summation k) (pos 0))) greatest-s
 
-pub summation-below : (k : ℕ) → k < 3 → (l : ℕ) → natAbs (entryOf l (summation k)) ≤ 9999
+pub summation-below : (k : ℕ) → k < 3 → (l : ℕ) → natAbs (entryOf l (summation k)) ≤ greatest-s
 unfolding summable componentTable
 summation-below k h l =
     leb→le _ _ (at (summable (getD componentTable (l - 1) [])) 3 (row-at (λ (row : List ℤ). every (summable row) 3) tt tt l) k h)
@@ -48,20 +55,25 @@ summation-below k h l =
 pub entry-fits : (l c : ℕ) → SFits w32 (entryOf l c)
 entry-fits l c = record { sfits = lt-of-le-of-lt (mag≤ (entryOf l c)) (omega (arith, entry-below l c)) }
 
-unsigned : List ℤ → ℕ → Bool
-unsigned row c = (ltb 0 c && ltb c 4) || nonNeg (getD row c (pos 0))
+pub unsigned-column : (c : ℕ) → Unsigned c → c < 12
+unsigned-column c u = ⊎-elim (λ e. rw e (omega arith)) (λ h. h .1) u
 
-not-summation : (c : ℕ) → (c < 1) ⊎ (3 < c) → (ltb 0 c && ltb c 4) ≡ false
-not-summation c u =
-    ⊎-elim
-    (λ h. ap (λ (b : Bool). b && ltb c 4) (le-ltb 0 c (le-of-suc-le-suc h)))
-    (λ h. ap (λ (b : Bool). ltb 0 c && b) (le-ltb c 4 h) ∙ and-false (ltb 0 c))
-    u
+-- no molar mass and no h is below 0
+mass-unsigned : List ℤ → Bool
+mass-unsigned row = nonNeg (getD row molarMass (pos 0))
 
-unsigned-at : (l c : ℕ) → c < 12 → T (unsigned (getD componentTable (l - 1) []) c)
-unfolding unsigned componentTable
-unsigned-at l c h = at (unsigned (getD componentTable (l - 1) [])) 12 (row-at (λ (row : List ℤ). every (unsigned row) 12) tt tt l) c h
+heat-unsigned : List ℤ → ℕ → Bool
+heat-unsigned row c = ltb c 4 || nonNeg (getD row c (pos 0))
+
+mass-at : (l : ℕ) → T (nonNeg (entryOf l molarMass))
+unfolding mass-unsigned componentTable
+mass-at l = row-at mass-unsigned tt tt l
+
+heat-at : (l c : ℕ) → Heat c → T (nonNeg (entryOf l c))
+unfolding heat-unsigned componentTable
+heat-at l c (lo, hi) =
+    unless (ltb c 4) (nonNeg (entryOf l c)) (le-ltb c 4 lo)
+    (at (heat-unsigned (getD componentTable (l - 1) [])) 12 (row-at (λ (row : List ℤ). every (heat-unsigned row) 12) tt tt l) c hi)
 
 pub not-negative : (l c : ℕ) → Unsigned c → T (nonNeg (entryOf l c))
-unfolding unsigned
-not-negative l c (h, u) = subst (λ (b : Bool). T (b || nonNeg (entryOf l c))) (not-summation c u) (unsigned-at l c h)
+not-negative l c u = ⊎-elim (λ e. rw e (mass-at l)) (λ h. heat-at l c h) u

@@ -1,6 +1,6 @@
 -- A test that antt computes at each number below n, or at each element of a list, gives what it tests at any of them.
-use mathlib.Core.Path.{sym, subst}
-use mathlib.Core.Bool.{Bool, true, false, _&&_}
+use mathlib.Core.Path.{_≡_, sym, subst}
+use mathlib.Core.Bool.{Bool, true, false, _&&_, _||_}
 use mathlib.Core.List.{List, [], _∷_}
 use mathlib.Core.Logic.{⊎-elim}
 use Prim.Native.Nat.{ℕ, zero, suc, _<_}
@@ -15,6 +15,11 @@ and-left false b t = t
 and-right : (a b : Bool) → T (a && b) → T b
 and-right true b t = t
 and-right false b t = absurd t
+
+-- a test with an exception passes where the exception does not hold
+pub unless : (a b : Bool) → a ≡ false → T (a || b) → T b
+unless true b e t = absurd (subst T e tt)
+unless false b e t = t
 
 -- the test passes at each number below n
 abbrev pub every : (ℕ → Bool) → ℕ → Bool

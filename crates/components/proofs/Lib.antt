@@ -3,7 +3,7 @@ pub mod RuleLaws
 pub mod Entries
 pub mod SignedSums
 pub mod SumLaws
-pub mod Summing
 pub mod AllLines
 pub mod Bounds
-pub mod Cases
+mod Summing
+mod Cases

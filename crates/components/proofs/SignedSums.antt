@@ -10,7 +10,7 @@ use lib.IntN.{ℤ, pos, negsuc, natAbs, subℕ, _+ℤ_, _*ℤ_}
 use mir.Syntax.{w32, w64}
 use mir.Val.{SFits, toZ, ofZ}
 use mir.Facts.{toZ-ofZ, sfits-widen}
-use Rattle.rounding.proofs.Signs.{natAbs-neg}
+use Rattle.rounding.proofs.SignedWords.{natAbs-neg}
 
 natAbs-sub : (a b : ℕ) → natAbs (subℕ a b) ≤ a + b
 natAbs-sub a b = go (ltb a b) refl

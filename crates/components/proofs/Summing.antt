@@ -8,7 +8,7 @@ use lib.IntN.{ℤ, pos, natAbs, _+ℤ_, _*ℤ_, +ℤ-idl}
 use lib.ListN.{length, getD, drop}
 use Rattle.components.specs.Table.{entryOf}
 use Rattle.components.specs.Composition.{Composition, total, sumOf}
-use Rattle.components.proofs.Entries.{entry-below}
+use Rattle.components.proofs.Entries.{largest, entry-below}
 use Rattle.components.proofs.SignedSums.{natAbs-add, natAbs-mul}
 use Rattle.components.proofs.SumLaws.{total-step, sum-turn, sum-end}
 
@@ -16,7 +16,7 @@ use Rattle.components.proofs.SumLaws.{total-step, sum-turn, sum-end}
 pub record Summed (c : ℕ) (ls xs : List ℕ) (s : ℤ) (k : ℕ) : Type 0 where
   pub within : k ≤ length ls
   pub whole : s +ℤ sumOf c (drop k ls) (drop k xs) ≡ sumOf c ls xs
-  pub size : natAbs s + 6842690 * total (drop k xs) ≤ 6842690 * total xs
+  pub size : natAbs s + largest * total (drop k xs) ≤ largest * total xs
 
 pub nothing-summed : (c : ℕ) (ls xs : List ℕ) → Summed c ls xs (pos 0) 0
 nothing-summed c ls xs = record { within = omega arith; whole = +ℤ-idl _; size = omega arith }
@@ -29,7 +29,7 @@ module _ (c : ℕ) (ls xs : List ℕ) (s : ℤ) (k : ℕ) (i : Summed c ls xs s 
     abbrev n : ℤ
     n = entryOf (getD ls k 0) c
 
-    term : x * natAbs n ≤ 6842690 * x
+    term : x * natAbs n ≤ largest * x
     term = omega (arith, mul-le-mul-left x (entry-below (getD ls k 0) c))
 
     left : total (drop k xs) ≡ x + total (drop (k + 1) xs)

@@ -30,10 +30,14 @@ unfoldable pub overLines : ℕ → ℕ → List ℕ → List ℕ → ℤ
 overLines c zero ls xs = pos 0
 overLines c (suc n) ls xs = pos (fractionFor (suc n) ls xs) *ℤ entryOf (suc n) c +ℤ overLines c n ls xs
 
--- each line number is above the one before, and at most 55
+-- each line number is above the one before (0 before the first), and at most 55
 unfoldable pub Ascending : ℕ → List ℕ → Type 0
 Ascending before [] = Unit
 Ascending before (l ∷ ls) = (before < l) × (l ≤ 55) × Ascending l ls
+
+-- sums run over all lines: where the line numbers ascend, the sum over the entries is the sum over the lines 1 to 55
+abbrev pub SumsRunOverAllLines : Type 0
+SumsRunOverAllLines = (c : ℕ) (ls xs : List ℕ) → Ascending 0 ls → overLines c 55 ls xs ≡ sumOf c ls xs
 
 -- as many fractions as line numbers, each line one of the table, and the fractions at most 1,000,100 in all
 pub record Composition (ls xs : List ℕ) : Type 0 where

@@ -1,3 +1,4 @@
 pub mod Table
 pub mod Rule
 pub mod Composition
+pub mod Bounds

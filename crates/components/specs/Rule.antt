@@ -2,12 +2,12 @@
 use mathlib.Core.Path.{_≡_}
 use mathlib.Core.Bool.{not, cond, _||_}
 use mathlib.Core.List.{List, [], _∷_}
-use Prim.Native.Nat.{ℕ, _+_, _-_, _≤_, _<_}
+use Prim.Native.Nat.{ℕ, _-_, _≤_, _<_}
 use lib.Dec.{eqb}
 use lib.IntN.{ℤ, pos, natAbs, _*ℤ_, _-ℤ_}
 use lib.ListN.{getD}
 use lib.Signed.{nonNeg}
-use Rattle.components.specs.Table.{entryOf, summation, superior, inferior}
+use Rattle.components.specs.Table.{entryOf, summation, superior, inferior, Heat}
 
 -- the hydrogen atoms of a molecule of each line, ten lines a row
 unfoldable pub hydrogenAtoms : List ℕ
@@ -31,14 +31,17 @@ water t = entryOf 42 (superior t)
 unfoldable pub allowance : ℕ → ℕ
 allowance l = cond (eqb l 21 || eqb l 22 || eqb l 23 || eqb l 45) 200 20
 
--- what holds of a line 1 to 55
-pub record Keeps (l : ℕ) : Type 0 where
+-- the rule over the whole table: it holds of every line l from 1 to 55
+pub record Rule : Type 0 where
   -- 2 × (superior − inferior) differs from a × w at the same temperature by at most the allowance
-  pub hydrogen : (t : ℕ) → t < 4
+  pub hydrogen : (l t : ℕ) → 1 ≤ l → l ≤ 55 → t < 4
       → natAbs (pos 2 *ℤ (entryOf l (superior t) -ℤ entryOf l (inferior t)) -ℤ pos (atomsOf l) *ℤ water t) ≤ allowance l
   -- every s lies strictly between −10,000 and 10,000
-  pub small : (k : ℕ) → k < 3 → natAbs (entryOf l (summation k)) < 10000
-  -- hydrogen, line 41, is negative at all three temperatures, and no other line is
-  pub sign : (k : ℕ) → k < 3 → nonNeg (entryOf l (summation k)) ≡ not (eqb l 41)
+  pub small : (l k : ℕ) → 1 ≤ l → l ≤ 55 → k < 3 → natAbs (entryOf l (summation k)) < 10000
+
+-- what document 01 says of single columns
+pub record Columns : Type 0 where
+  -- s of hydrogen, line 41, is negative at all three temperatures; of the other lines it is not
+  pub sign : (l k : ℕ) → 1 ≤ l → l ≤ 55 → k < 3 → nonNeg (entryOf l (summation k)) ≡ not (eqb l 41)
   -- h is 0 for lines 49 to 55
-  pub inert : (c : ℕ) → c < 8 → 49 ≤ l → entryOf l (4 + c) ≡ pos 0
+  pub no-heat : (l c : ℕ) → 49 ≤ l → l ≤ 55 → Heat c → entryOf l c ≡ pos 0

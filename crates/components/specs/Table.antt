@@ -1,7 +1,8 @@
 -- The component table of document 01: tables 1 to 3 of source document 002, 55 lines of twelve columns, 660 numbers.
+use mathlib.Core.Path.{_≡_}
 use mathlib.Core.List.{List, [], _∷_}
 use mathlib.Core.Logic.{_⊎_}
-use Prim.Native.Nat.{ℕ, _+_, _-_, _*_, _<_}
+use Prim.Native.Nat.{ℕ, _+_, _-_, _*_, _≤_, _<_}
 use lib.IntN.{ℤ, pos, negℤ}
 use lib.ListN.{getD}
 
@@ -73,7 +74,7 @@ componentTable =
     line 640650 (pos 1549) (pos 1449) (pos 1414) 0 0 0 0 0 0 0 0 ∷  -- 55 sulphur dioxide
     []
 
--- the number of a line 1 to 55 in a column 0 to 11
+-- the number of a line 1 to 55 in a column 0 to 11 (it is 0 past the table, and line 0 counts as line 1)
 abbrev pub entryOf : ℕ → ℕ → ℤ
 entryOf l c = getD (getD componentTable (l - 1) []) c (pos 0)
 
@@ -90,6 +91,10 @@ superior t = 4 + 2 * t
 abbrev pub inferior : ℕ → ℕ
 inferior t = 5 + 2 * t
 
--- a column of molar mass or of h, which has no number below 0
+-- a column of h
+abbrev pub Heat : ℕ → Type 0
+Heat c = (4 ≤ c) × (c < 12)
+
+-- a column that has no number below 0: m, or one of h
 abbrev pub Unsigned : ℕ → Type 0
-Unsigned c = (c < 12) × ((c < 1) ⊎ (3 < c))
+Unsigned c = (c ≡ molarMass) ⊎ Heat c

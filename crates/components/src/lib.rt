@@ -1,6 +1,6 @@
 // The component table of ISO 6976:1995, and sums of fraction times column over a composition.
 ghost use mathlib.Core.Path.{_≡_};
-ghost use Prim.Native.Nat.{_+_, _*_, _≤_, _<_};
+ghost use Prim.Native.Nat.{_+_, _*_, _^_, _≤_, _<_};
 ghost use lib.IntN.{natAbs, pos, _+ℤ_, _*ℤ_};
 ghost use Rattle.components.specs.Table.{componentTable, entryOf, Unsigned};
 ghost use Rattle.components.specs.Composition.{Composition, sumOf};
@@ -26,7 +26,7 @@ pub fn entry(table: &[[i32; 12]; 55], line: u8, column: usize) -> i32
 
 // sum + x * n.
 fn add_product(sum: i64, x: u32, n: i32) -> i64
-    requires { ⌜ natAbs sum + x * natAbs n < 9223372036854775808 ⌝ }
+    requires { ⌜ natAbs sum + x * natAbs n < 2 ^ 63 ⌝ }
     ensures { λ r. ⌜ r ≡ sum +ℤ pos x *ℤ n ⌝ }
 {
     sum + (x as i64) * (n as i64)

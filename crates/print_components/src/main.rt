@@ -1,13 +1,13 @@
 // Prints the component table, a line of the table a line: the line's number, then its twelve columns in the order and the
 // units of crates/components/src/table.rt.
 ghost use mathlib.Core.Path.{_≡_};
-ghost use Prim.Native.Nat.{_≤_, _<_};
+ghost use Prim.Native.Nat.{_^_, _≤_, _<_};
 ghost use lib.IntN.{natAbs};
 ghost use Rattle.components.specs.Table.{componentTable};
 use libc::STDOUT_FILENO;
 
 fn print_number(n: i64)
-    requires { ⌜ natAbs n < 9223372036854775808 ⌝ }
+    requires { ⌜ natAbs n < 2 ^ 63 ⌝ }
 {
     if n < 0 {
         io::write_all(STDOUT_FILENO, b" -");

@@ -8,7 +8,7 @@ use native.Mathlib.Decide.{decLe}
 use borrow.Author.Tests.{eq-eqb, ne-eqb, lt-ltb, le-ltb}
 use lib.Dec.{eqb, ltb}
 use lib.Pow.{pow-add, pow-mono}
-use Rattle.rounding.specs.Root.{Root, root, roundsTo, rootRounds}
+use Rattle.rounding.specs.Root.{Root, root, roundAt, roundsTo, rootRounds}
 use Rattle.rounding.proofs.RootLaws.{below-of-squares, root-is, root-unique, root-greatest}
 
 -- The root of n is at least lo and below hi, which are 2^32 apart at first and half as far after each round. The rounds made
@@ -31,7 +31,7 @@ module _ (r lo hi k : ℕ) (h : k ≤ 32) where
 
   round : roundsTo r (33 - k) lo hi
       ≡ suc (cond (eqb middle r) 0 (cond (ltb r middle) (roundsTo r (33 - (k + 1)) lo middle) (roundsTo r (33 - (k + 1)) (middle + 1) hi)))
-  unfolding roundsTo
+  unfolding roundsTo roundAt
   round =
       let e : 33 - k ≡ suc (32 - k) = omega arith in
       let f : 33 - (k + 1) ≡ 32 - k = omega arith in

@@ -1,8 +1,8 @@
--- Halves, on both sides of 0, and roots next to a square: the definitions compute them.
+-- Halves on both sides of 0, roots next to a square, rounds of a search: the definitions compute them.
 use mathlib.Core.Path.{_≡_, refl}
 use lib.IntN.{pos, negsuc}
 use Rattle.rounding.specs.Near.{near, nearZ, floor}
-use Rattle.rounding.specs.Root.{root, rootFrom}
+use Rattle.rounding.specs.Root.{root, rootFrom, roundAt, roundsTo, rootRounds}
 
 half-up : (near 4 10 ≡ 0) × (near 5 10 ≡ 1) × (near 14 10 ≡ 1) × (near 15 10 ≡ 2)
 unfolding near
@@ -17,3 +17,8 @@ half-up-below-zero = (refl, refl, refl, refl, refl)
 roots : (root 18446744065119617025 ≡ 4294967295) × (root 18446744065119617024 ≡ 4294967294) × (root 18446744073709551615 ≡ 4294967295)
 unfolding root rootFrom
 roots = (refl, refl, refl)
+
+-- no search takes more rounds than that for the root of 0; that for the root of 2^62 takes 1
+rounds : (rootRounds 0 ≡ 33) × (rootRounds 4611686018427387904 ≡ 1)
+unfolding root rootFrom roundAt roundsTo rootRounds
+rounds = (refl, refl)

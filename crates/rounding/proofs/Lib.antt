@@ -1,8 +1,8 @@
 pub mod NearLaws
 pub mod FractionLaws
 pub mod RootLaws
-pub mod Signs
 pub mod SignedWords
-pub mod Quotient
-pub mod Bisection
-pub mod Cases
+mod Signs
+mod Quotient
+mod Bisection
+mod Cases

@@ -42,25 +42,25 @@ near-shift k n q h =
     let e : 2 * (k * q + n) + q ≡ k * (2 * q) + (2 * n + q) = omega arith in
     ap (λ (m : ℕ). m / (2 * q)) e ∙ mul-add-div-right {m = 2 * q} (omega arith) k (2 * n + q)
 
--- the long division of high × 10^9 + low: what stands after the first and after the second step
+-- the long division of whole × 10^9 + rest: what stands after the first and after the second step
 abbrev pub after1 : ℕ → ℕ → ℕ → ℕ
-after1 high low q = high % q * 100000 + low / 10000
+after1 whole rest q = whole % q * 100000 + rest / 10000
 
 abbrev pub after2 : ℕ → ℕ → ℕ → ℕ
-after2 high low q = after1 high low q % q * 10000 + low % 10000
+after2 whole rest q = after1 whole rest q % q * 10000 + rest % 10000
 
-module _ {high low q : ℕ} (w : Wide high low q) where
-  pub after1-fits : after1 high low q < 2 ^ 64
-  after1-fits = omega (arith, rest-below high q (w .proper), w .divisor, w .rest)
+module _ {whole rest q : ℕ} (w : Wide whole rest q) where
+  pub after1-fits : after1 whole rest q < 2 ^ 64
+  after1-fits = omega (arith, rest-below whole q (w .proper), w .divisor, w .below)
 
-  pub after2-fits : after2 high low q < 2 ^ 64
-  after2-fits = omega (arith, rest-below (after1 high low q) q (w .proper), w .divisor)
+  pub after2-fits : after2 whole rest q < 2 ^ 64
+  after2-fits = omega (arith, rest-below (after1 whole rest q) q (w .proper), w .divisor)
 
-  pub digits : high / q * 1000000000 + after1 high low q / q * 10000 + near (after2 high low q) q ≡ near (dividend high low) q
+  pub digits : whole / q * 1000000000 + after1 whole rest q / q * 10000 + near (after2 whole rest q) q ≡ near (dividend whole rest) q
   digits =
-      let k : ℕ = high / q * 1000000000 + after1 high low q / q * 10000 in
-      let e : dividend high low ≡ k * q + after2 high low q = omega (arith, div-add-mod' high q, div-add-mod' (after1 high low q) q) in
-      sym (ap (λ (n : ℕ). near n q) e ∙ near-shift k (after2 high low q) q (w .proper))
+      let k : ℕ = whole / q * 1000000000 + after1 whole rest q / q * 10000 in
+      let e : dividend whole rest ≡ k * q + after2 whole rest q = omega (arith, div-add-mod' whole q, div-add-mod' (after1 whole rest q) q) in
+      sym (ap (λ (n : ℕ). near n q) e ∙ near-shift k (after2 whole rest q) q (w .proper))
 
-  pub digits-fit : high / q * 1000000000 + after1 high low q / q * 10000 + near (after2 high low q) q < 2 ^ 64
+  pub digits-fit : whole / q * 1000000000 + after1 whole rest q / q * 10000 + near (after2 whole rest q) q < 2 ^ 64
   digits-fit = rw digits (w .fits)

@@ -7,6 +7,7 @@ use native.Mathlib.Decide.{decLe}
 use mathlib.Core.Bool.{Bool, true, false, not, cond}
 use lib.Dec.{T, leb, leb→le, nleb→lt}
 use Rattle.rounding.specs.Root.{Root, root, rootFrom}
+use Rattle.rounding.specs.Laws.{RootIs}
 
 -- a number whose square is at most n is below each whose square is above n
 pub below-of-squares : (a b n : ℕ) → a * a ≤ n → n < b * b → a < b
@@ -34,6 +35,6 @@ rootFrom-is (suc k) n c h l =
     step true from fits over = from (c + 2 ^ k) (fits tt) (omega (arith, rw (pow-suc 2 k) at l))
     step false from fits over = from c h (over tt)
 
-pub root-is : (n : ℕ) → n < 2 ^ 64 → Root (root n) n
+pub root-is : RootIs
 unfolding root
 root-is n h = rootFrom-is 32 n 0 (omega arith) (omega arith)

@@ -1,7 +1,7 @@
--- Signed words of 64 bits: what fits, and what a test of the sign tells.
+-- Signed numbers in machine words: what fits 64 bits, and what a test of the sign tells. The crates above use these laws too.
 use mathlib.Core.Path.{_≡_, refl, ap, _∙_, subst, subst⁻¹}
 use mathlib.Core.Bool.{true, false}
-use Prim.Native.Nat.{ℕ, _≤_, _<_, _^_}
+use Prim.Native.Nat.{ℕ, zero, suc, _≤_, _<_, _^_}
 use native.Mathlib.Nat.{lt-of-le-of-lt, le-refl}
 use native.Mathlib.Omega.{arith}
 use borrow.Author.Tests.{ltb-true}
@@ -11,7 +11,10 @@ use lib.Signed.{mag, ltZ, nonNeg}
 use mir.Syntax.{w64}
 use mir.Val.{Fits, SFits, toZ, ofZ}
 use mir.Facts.{toZ-ofZ}
-use Rattle.rounding.proofs.Signs.{natAbs-neg}
+
+pub natAbs-neg : (a : ℕ) → natAbs (negℤ (pos a)) ≡ a
+natAbs-neg zero = refl
+natAbs-neg (suc a) = refl
 
 pub mag≤ : (z : ℤ) → mag z ≤ natAbs z
 mag≤ (pos n) = le-refl n

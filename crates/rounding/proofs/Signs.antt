@@ -4,13 +4,9 @@ use mathlib.Core.Bool.{Bool, cond}
 use Prim.Native.Nat.{ℕ, zero, suc, _+_, _*_, _-_, _≤_, _<_, zero-le}
 use native.Mathlib.Nat.{div-eq-of-lt, div-eq-of-lt-le}
 use native.Mathlib.Omega.{arith}
-use lib.IntN.{ℤ, pos, negsuc, negℤ, natAbs, subℕ, _+ℤ_, _*ℤ_}
+use lib.IntN.{ℤ, pos, negsuc, negℤ, subℕ, _+ℤ_, _*ℤ_}
 use borrow.Author.Tests.{lt-ltb, le-ltb}
 use Rattle.rounding.specs.Near.{nearZ, floor}
-
-pub natAbs-neg : (a : ℕ) → natAbs (negℤ (pos a)) ≡ a
-natAbs-neg zero = refl
-natAbs-neg (suc a) = refl
 
 sub-ge : {a b : ℕ} → b ≤ a → subℕ a b ≡ pos (a - b)
 sub-ge {a} {b} h = ap (λ (t : Bool). cond t (negsuc (b - suc a)) (pos (a - b))) (le-ltb a b h)

@@ -26,9 +26,8 @@ plus x y = (x .num * y .den + y .num * x .den) over (x .den * y .den)
 abbrev pub times : ℕ → Fraction → Fraction
 times k x = (k * x .num) over (x .den)
 
--- v differs from x by at most t: v ≤ x + t and x ≤ v + t, each multiplied by the two denominators.
--- x is a fraction that means something: its denominator is above 0.
+-- v differs from x by at most t: v ≤ x + t and x ≤ v + t, each multiplied by the two denominators, which are above 0
 pub record Within (t : Fraction) (v : ℕ) (x : Fraction) : Type 0 where
-  pub proper : 0 < x .den
+  pub proper : (0 < x .den) × (0 < t .den)
   pub below : v * x .den * t .den ≤ x .num * t .den + t .num * x .den
   pub above : x .num * t .den ≤ v * x .den * t .den + t .num * x .den

@@ -2,3 +2,4 @@ pub mod Near
 pub mod Fraction
 pub mod Root
 pub mod Wide
+pub mod Laws

@@ -17,12 +17,15 @@ rootFrom (suc k) n c = rootFrom k n (cond (leb ((c + 2 ^ k) * (c + 2 ^ k)) n) (c
 unfoldable pub root : ℕ → ℕ
 root n = rootFrom 32 n 0
 
--- The rounds of a bisection of the numbers from lo to below hi. Each round tries the middle; the round that tries r is the
--- last, and no more than k are made.
+-- One round of a bisection of the numbers from lo to below hi tries c, between them. Where that is r the round is the last;
+-- otherwise `next` counts the rounds from lo to below c, or from c + 1 to below hi.
+unfoldable pub roundAt : (ℕ → ℕ → ℕ) → ℕ → ℕ → ℕ → ℕ → ℕ
+roundAt next r lo c hi = suc (cond (eqb c r) 0 (cond (ltb r c) (next lo c) (next (c + 1) hi)))
+
+-- the rounds of a bisection until it tries r, which begins each round in the middle and makes at most k
 unfoldable pub roundsTo : ℕ → ℕ → ℕ → ℕ → ℕ
 roundsTo r zero lo hi = 0
-roundsTo r (suc k) lo hi =
-    let c = (lo + hi) / 2 in suc (cond (eqb c r) 0 (cond (ltb r c) (roundsTo r k lo c) (roundsTo r k (c + 1) hi)))
+roundsTo r (suc k) lo hi = roundAt (roundsTo r k) r lo ((lo + hi) / 2) hi
 
 -- the rounds of the search for the integer root of n: 33 are enough for every n below 2^64
 unfoldable pub rootRounds : ℕ → ℕ

@@ -1,13 +1,13 @@
--- A dividend of two words: high × 10^9 + low.
+-- A dividend that does not fit one word: whole × 10^9 + rest.
 use Prim.Native.Nat.{ℕ, _+_, _*_, _^_, _≤_, _<_}
 use Rattle.rounding.specs.Near.{near}
 
 abbrev pub dividend : ℕ → ℕ → ℕ
-dividend high low = high * 1000000000 + low
+dividend whole rest = whole * 1000000000 + rest
 
--- what the division of such a dividend by q asks: low is less than one unit of high, and the answer fits 64 bits
-pub record Wide (high low q : ℕ) : Type 0 where
+-- what the division of such a dividend by q asks: the rest is below one unit of the whole part, and the answer fits 64 bits
+pub record Wide (whole rest q : ℕ) : Type 0 where
   pub proper : 0 < q
   pub divisor : q ≤ 100000000000000
-  pub rest : low < 1000000000
-  pub fits : near (dividend high low) q < 2 ^ 64
+  pub below : rest < 1000000000
+  pub fits : near (dividend whole rest) q < 2 ^ 64

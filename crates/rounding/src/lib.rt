@@ -1,6 +1,6 @@
 // Rounding to the nearest whole number, halves upward, and the integer square root.
 ghost use mathlib.Core.Path.{_≡_};
-ghost use Prim.Native.Nat.{_≤_, _<_};
+ghost use Prim.Native.Nat.{_^_, _≤_, _<_};
 ghost use lib.IntN.{pos, negℤ, natAbs};
 ghost use Rattle.rounding.specs.Near.{near, nearZ};
 ghost use Rattle.rounding.specs.Wide.{Wide, dividend};
@@ -16,14 +16,14 @@ pub fn nearest(n: u64, q: u64) -> u64
     if rest < q - rest { whole } else { whole + 1 }
 }
 
-// The same for the dividend high * 10^9 + low, by long division: first high, then low in digits of 10^5 and 10^4.
-pub fn nearest_wide(high: u64, low: u64, q: u64) -> u64
-    requires { ⌜ Wide high low q ⌝ }
-    ensures { λ r. ⌜ r ≡ near (dividend high low) q ⌝ }
+// The same for the dividend whole * 10^9 + rest, by long division: first whole, then rest in digits of 10^5 and 10^4.
+pub fn nearest_wide(whole: u64, rest: u64, q: u64) -> u64
+    requires { ⌜ Wide whole rest q ⌝ }
+    ensures { λ r. ⌜ r ≡ near (dividend whole rest) q ⌝ }
 {
-    let n1 = high % q * 100000 + low / 10000;
-    let n2 = n1 % q * 10000 + low % 10000;
-    high / q * 1000000000 + n1 / q * 10000 + nearest(n2, q)
+    let n1 = whole % q * 100000 + rest / 10000;
+    let n2 = n1 % q * 10000 + rest % 10000;
+    whole / q * 1000000000 + n1 / q * 10000 + nearest(n2, q)
 }
 
 // The size of the whole number nearest to -n / q, halves upward: of a half, the smaller one.
@@ -38,7 +38,7 @@ fn nearest_below_zero(n: u64, q: u64) -> u64
 
 // The whole number nearest to n / q on the signed scale, halves upward.
 pub fn nearest_signed(n: i64, q: u64) -> i64
-    requires { ⌜ (0 < q) × (natAbs n < 9223372036854775808) ⌝ }
+    requires { ⌜ (0 < q) × (natAbs n < 2 ^ 63) ⌝ }
     ensures { λ r. ⌜ r ≡ nearZ n q ⌝ }
 {
     if n < 0 {
@@ -49,14 +49,14 @@ pub fn nearest_signed(n: i64, q: u64) -> i64
 }
 
 // A root, and the rounds that its search took.
-pub struct Rooted {
-    pub root: u64,
-    pub rounds: u64,
+struct Rooted {
+    root: u64,
+    rounds: u64,
 }
 
 // The integer square root by bisection: the root is at least lo and below hi. Each round tries one candidate, and the
 // search ends with the round whose candidate is the root.
-pub fn root_search(n: u64) -> Rooted
+fn root_search(n: u64) -> Rooted
     ensures right { λ r. ⌜ r .root ≡ root n ⌝ }
     ensures counted { λ r. ⌜ r .rounds ≡ rootRounds n ⌝ }
     ensures few { λ r. ⌜ r .rounds ≤ 33 ⌝ }

@@ -1,3 +1,4 @@
+-- The product and the sum fit 64 bits, so the machine gives them unchanged.
 use mathlib.Core.Path.{_≡_}
 use native.Mathlib.Omega.{arith}
 use borrow.Author.Needs.{needs}

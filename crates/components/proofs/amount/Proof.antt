@@ -1,19 +1,21 @@
+-- The signed sum of a column that has no number below 0 is that of its sizes, so the cast keeps it.
 use mathlib.Core.Path.{_≡_, sym, ap, _∙_}
 use native.Mathlib.Omega.{arith}
-use borrow.Author.Needs.{needs, sfits-of}
+use borrow.Author.Needs.{sfits-of}
 use lib.IntN.{ℤ, pos, natAbs}
 use mir.Syntax.{w64}
 use mir.Val.{toZ, ofZ}
 use mir.Facts.{toZ-ofZ}
 use Rattle.rounding.proofs.SignedWords.{cast-pos}
 use Rattle.components.specs.Composition.{sumOf}
-use Rattle.components.proofs.Entries.{entry-below}
+use Rattle.components.proofs.Entries.{largest, entry-below, unsigned-column}
 use Rattle.components.proofs.SumLaws.{sizes, sizes-high, sum-is-sizes}
 use Rattle.components.proofs.amount.Statement.{statement}
 use Rattle.components.proofs.amount.Tie as tie
 
 sum-requires : tie.Need-sum-requires
-sum-requires c κs = search needs
+sum-requires c κs =
+    let p = c .before .before .pre in (p .0, (p .1 .0, unsigned-column _ (p .1 .1)))
 
 module _ (c : tie.After-sum) where
   abbrev start : tie.Start
@@ -29,7 +31,7 @@ cast-result : tie.Need-cast-result
 cast-result c =
     let a = start c .args in
     cast-pos _ _ (value c)
-    (omega (arith, sizes-high (a .column) 6842690 (λ l. entry-below l (a .column)) (a .lines .now) (a .fractions .now), start c .pre .1 .0 .sum))
+    (omega (arith, sizes-high (a .column) largest (λ l. entry-below l (a .column)) (a .lines .now) (a .fractions .now), start c .pre .1 .0 .sum))
 
 returns : tie.Need-returns
 returns c = ap (λ (z : ℤ). pos (natAbs z)) (value c) ∙ sym (same c)

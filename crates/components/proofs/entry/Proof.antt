@@ -1,4 +1,4 @@
--- A number of the table fits an i32.
+-- The lent table is that of specs/, and each of its numbers fits an i32.
 use borrow.Author.Needs.{needs}
 use mir.Facts.{toZ-ofZ}
 use Rattle.components.proofs.Entries.{entry-fits}

@@ -1,3 +1,4 @@
+-- The loop keeps `Summed`: what is summed and the sum of what is left are the whole.
 use mathlib.Core.Path.{_≡_, ap, _∙_}
 use Prim.Native.Nat.{_-_}
 use native.Mathlib.Omega.{arith}

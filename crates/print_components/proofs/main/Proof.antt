@@ -1,3 +1,4 @@
+-- Each line is one of the table.
 use Prim.Native.Nat.{_≤_, _-_}
 use native.Mathlib.Omega.{arith}
 use borrow.Author.Needs.{needs}

@@ -1,3 +1,4 @@
+-- Each column is one of the table, and each number fits its cast.
 use Prim.Native.Nat.{_≤_, _-_}
 use native.Mathlib.Omega.{arith}
 use borrow.Author.Needs.{needs, sfits-of}

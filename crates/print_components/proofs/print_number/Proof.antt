@@ -1,3 +1,4 @@
+-- The size of a number below 0 fits its cast.
 use borrow.Author.Needs.{needs}
 use Rattle.rounding.proofs.SignedWords.{cast-pos, opposite-fits, opposite-is, value-is}
 use Rattle.print_components.proofs.print_number.Statement.{statement}

@@ -1,3 +1,4 @@
+-- The quotient, or one more, is the size of `nearZ`, by the laws on its rest.
 use native.Mathlib.Omega.{arith}
 use borrow.Author.Needs.{needs}
 use Rattle.rounding.proofs.Quotient.{rest-below, next-fits, stays-below, goes-down}

@@ -1,3 +1,4 @@
+-- Each branch is what `nearZ` gives on its side of 0, and everything fits 64 bits.
 use mathlib.Core.Path.{_≡_, sym, ap, _∙_}
 use Prim.Native.Nat.{ℕ, _<_, _^_}
 use native.Mathlib.Nat.{le-mul-of-pos-right}
@@ -7,13 +8,12 @@ use lib.IntN.{ℤ, pos, negℤ, natAbs}
 use mir.Facts.{toZ-ofZ}
 use Rattle.rounding.specs.Near.{nearZ}
 use Rattle.rounding.proofs.NearLaws.{nearZ-half, nearZ-pos, at-most}
-use Rattle.rounding.proofs.Signs.{natAbs-neg}
-use Rattle.rounding.proofs.SignedWords.{fits64, toZ-pos, cast-pos, minus-is, minus-fits, is-below, not-below, opposite-fits, opposite-is, value-is}
+use Rattle.rounding.proofs.SignedWords.{natAbs-neg, fits64, toZ-pos, cast-pos, minus-is, minus-fits, is-below, not-below, opposite-fits, opposite-is, value-is}
 use Rattle.rounding.proofs.nearest_signed.Statement.{statement}
 use Rattle.rounding.proofs.nearest_signed.Tie as tie
 
 -- the answer is no larger than n
-size : (n : ℤ) (q : ℕ) → (0 < q) × (natAbs n < 9223372036854775808) → natAbs (nearZ n q) < 2 ^ 63
+size : (n : ℤ) (q : ℕ) → (0 < q) × (natAbs n < 2 ^ 63) → natAbs (nearZ n q) < 2 ^ 63
 size n q (h, small) = omega (arith, at-most {b = natAbs n} (nearZ-half n q h) (le-mul-of-pos-right (natAbs n) h))
 
 sub-nearest-below-zero : tie.Need-sub-nearest-below-zero

@@ -1,3 +1,4 @@
+-- The digits of the long division are those of `near`, and each step fits 64 bits.
 use native.Mathlib.Omega.{arith}
 use borrow.Author.Needs.{needs}
 use Rattle.rounding.proofs.Quotient.{after1-fits, after2-fits, digits, digits-fit}

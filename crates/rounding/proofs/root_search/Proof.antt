@@ -1,3 +1,4 @@
+-- The loop keeps the bracket of the bisection; its measure is the width of the bracket.
 use Prim.Native.Nat.{_+_, _-_, _/_}
 use native.Mathlib.Omega.{arith}
 use Rattle.rounding.specs.Root.{Root}
