@@ -4,16 +4,21 @@
 usage: tools/check_table.py SCAN     (SCAN: the text of source document 002)
 
 Cuts tables 1 to 5 out of the scan, then checks
-  reading   each of the 660 numbers of crates/components/specs/Table.antt against the printed one;
+  second    every figure of tables 1 to 5 against a reading of the scan by eye, tools/reading/;
+  table     each of the 660 numbers, and each name, of crates/components/specs/Table.antt against tables 1 to 3;
+  atoms     the hydrogen atoms of crates/components/specs/Rule.antt against the formulas below;
   mass      table 1 against the atomic masses that the source prints under it;
   factor    each s of table 2 against its z: s is the root of 1 - z, to its last digit;
-  hydrogen  2 x (superior - inferior) of table 3 against hydrogen atoms x water's superior value, by document 01's rule;
+  hydrogen  2 x (superior - inferior) of table 3 against hydrogen atoms x water's superior value: document 01's rule;
   table 4   per kilogram, from table 3 and the molar mass before rounding, as its heading says;
   table 5   per cubic metre, from table 3 and p / (R T).
-Each check prints how many figures are equal, how many differ by no more than the rounding of the printed figures that
-they come from, and how many otherwise; and, with its place, every figure that is not equal. The exit status is 1 unless
-the figures that differ otherwise, and those that cannot be checked, are just those of KNOWN.
+Each check prints how many figures are equal; how many differ by no more than the rounding of the printed figures that they
+come from (for hydrogen, than document 01 allows); and how many otherwise; and, with its place, every figure that is not
+equal. The exit status is 1 unless those that differ otherwise, or cannot be checked, are just those of KNOWN.
+A figure of table 4 or 5 has two decimals, so it tells a value of table 3 to some 0.1 kJ/mol; hydrogen tells a difference of
+two values to 0.01.
 """
+import csv
 import os
 import re
 import sys
@@ -115,13 +120,25 @@ def read(path):
     return tables
 
 
+TOP = os.path.join(os.path.dirname(__file__), "..")
+
+
+def second_reading(number):
+    """A table as it was read by eye: line -> list of decimals as text, the name first for table 1."""
+    with open(os.path.join(TOP, "tools", "reading", f"table{number}.csv"), encoding="utf-8", newline="") as text:
+        return {int(row[0]): row[1:] for row in list(csv.reader(text))[1:]}
+
+
+def specification(name):
+    with open(os.path.join(TOP, "crates", "components", "specs", name), encoding="utf-8") as text:
+        return text.read()
+
+
 def specified():
-    """The rows of the component table of specs/: line -> twelve whole numbers."""
-    path = os.path.join(os.path.dirname(__file__), "..", "crates", "components", "specs", "Table.antt")
-    with open(path, encoding="utf-8") as text:
-        rows = re.findall(r"^    line (.*) ∷  -- (\d+) ", text.read(), re.M)
+    """The rows of the component table of specs/: line -> (name, twelve whole numbers)."""
+    rows = re.findall(r"^    line (.*) ∷  -- (\d+) (.*)$", specification("Table.antt"), re.M)
     signed = lambda row: re.sub(r"\((pos|neg) (\d+)\)", lambda m: m[2] if m[1] == "pos" else "-" + m[2], row)
-    return {int(line): [int(word) for word in signed(row).split()] for row, line in rows}
+    return {int(line): (name, [int(word) for word in signed(row).split()]) for row, line, name in rows}
 
 
 def atoms(formula):
@@ -153,14 +170,17 @@ class Check:
     def figure(self, line, place, printed, low, high):
         """A printed figure, and the least and the greatest value that the figures it comes from allow."""
         half, value = half_unit(printed), (low + high) / 2
-        if abs(D(printed) - value) <= half:
+        near = low - half <= D(printed) <= high + half
+        self.compare(line, place, printed, round(value, 4), abs(D(printed) - value) <= half, near)
+
+    def compare(self, line, place, printed, value, equal, near):
+        if equal:
             self.equal += 1
             return
-        near = low - half <= D(printed) <= high + half
         self.rounding += near
         if not near:
             self.other.add((self.name, line))
-        self.said.append(f"  line {line}, {place}: {printed}, recomputed {value:.6f}" + ("" if near else "  OTHERWISE"))
+        self.said.append(f"  line {line}, {place}: {printed}, against {value}" + ("" if near else "  OTHERWISE"))
 
     def unchecked(self, line, why):
         self.other.add((self.name, line))
@@ -172,14 +192,37 @@ class Check:
         return self.other
 
 
-def reading(tables):
-    """The 660 numbers, by their printed text: whole multiples of the units of document 01."""
-    check, table = Check("reading"), specified()
-    for line in range(1, 56):
+def second(tables):
+    """Every figure against the reading by eye."""
+    check = Check("second")
+    for number, table in tables.items():
+        read_by_eye = second_reading(number)
+        for line, row in table.items():
+            for column, (one, two) in enumerate(zip(row, read_by_eye[line][-len(row):], strict=True)):
+                check.compare(line, f"table {number}, figure {column}", one, two, one == two, False)
+    return check.report()
+
+
+def component_table(tables):
+    """The 660 numbers as whole multiples of the units of document 01, and the names of the lines."""
+    check, table, names = Check("table"), specified(), second_reading(1)
+    assert list(table) == list(range(1, 56)), "the lines of specs/Table.antt"
+    for line, (name, own) in table.items():
         heats = tables[3].get(line, ["0"] * 8)
         printed = [D(tables[1][line][0]) * 10000, *(D(tables[2][line][c]) * 10000 for c in (1, 3, 5)), *(D(h) * 1000 for h in heats)]
-        for column, (own, shown) in enumerate(zip(table[line], printed, strict=True)):
-            check.figure(line, f"column {column}", str(own), shown, shown)
+        for column, (one, two) in enumerate(zip(own, printed, strict=True)):
+            check.compare(line, f"column {column}", one, two, one == two, False)
+        if name != names[line][0]:
+            check.unchecked(line, f"name {name}, against {names[line][0]}")
+    return check.report()
+
+
+def hydrogen_atoms(tables):
+    check = Check("atoms")
+    own = re.search(r"^hydrogenAtoms =\n((?:    .*\n)+)", specification("Rule.antt"), re.M)[1].replace("[]", "").split("∷")[:-1]
+    for line, (one, formula) in enumerate(zip(own, FORMULAS, strict=True), 1):
+        two = (atoms(formula) or {"H": 0})["H"]
+        check.compare(line, formula, one.strip(), two, int(one) == two, False)
     return check.report()
 
 
@@ -207,10 +250,11 @@ def factors(tables):
 def hydrogens(tables):
     check = Check("hydrogen")
     for line, row in tables[3].items():
-        for place, high, low, water in zip(TEMPERATURES, row[0::2], row[1::2], tables[3][42][0::2]):
-            slack = D("0.1") if line in ONE_DECIMAL else D("0.01")
-            half = atoms(FORMULAS[line - 1])["H"] * D(water) / 2
-            check.figure(line, f"superior - inferior at {place} °C", str(D(high) - D(low)), half - slack, half + slack)
+        for place, high, low, water in zip(TEMPERATURES, row[0::2], row[1::2], tables[3][42][0::2], strict=True):
+            allowed = D("0.2") if line in ONE_DECIMAL else D("0.02")
+            twice, rule = 2 * (D(high) - D(low)), atoms(FORMULAS[line - 1])["H"] * D(water)
+            last = 2 * half_unit(high)  # what the last digit of the difference can tell
+            check.compare(line, f"2 x (superior - inferior) at {place} °C", twice, rule, abs(twice - rule) <= last, abs(twice - rule) <= allowed)
     return check.report()
 
 
@@ -240,8 +284,8 @@ def main():
     if len(sys.argv) != 2:
         sys.exit(__doc__)
     tables = read(sys.argv[1])
-    print("tables 1 to 5:", sum(len(row) for table in tables.values() for row in table.values()), "figures,", len(CORRECTED), "corrected")
-    found = set().union(*(check(tables) for check in (reading, masses, factors, hydrogens, per_kilogram, per_cubic_metre)))
+    print("tables 1 to 5:", sum(len(row) for table in tables.values() for row in table.values()), "figures,", len(CORRECTED), "of them corrected")
+    found = set().union(*(check(tables) for check in (second, component_table, hydrogen_atoms, masses, factors, hydrogens, per_kilogram, per_cubic_metre)))
     for name, line in sorted(found ^ KNOWN):
         print(f"{name}, line {line}:", "not in KNOWN" if (name, line) in found else "in KNOWN, and not found")
     sys.exit(1 if found != KNOWN else 0)

@@ -15,7 +15,7 @@ use Rattle.components.proofs.amount.Tie as tie
 
 sum-requires : tie.Need-sum-requires
 sum-requires c κs =
-    let p = c .before .before .pre in (p .0, (p .1 .0, unsigned-column _ (p .1 .1)))
+    let p = c .before .before .pre in (p .0, (p .1 .0, omega (arith, unsigned-column (c .before .before .args .column) (p .1 .1))))
 
 module _ (c : tie.After-sum) where
   abbrev start : tie.Start
