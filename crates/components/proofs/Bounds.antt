@@ -3,7 +3,7 @@ use mathlib.Core.Path.{_≡_, refl, ap}
 use mathlib.Core.Bool.{Bool, _||_}
 use mathlib.Core.Logic.{inl, inr}
 use mathlib.Core.List.{List}
-use Prim.Native.Nat.{ℕ, _-_, _≤_, _<_}
+use Prim.Native.Nat.{ℕ, _≤_, _<_}
 use native.Mathlib.Omega.{arith}
 use lib.Dec.{leb, ltb, leb→le}
 use lib.IntN.{natAbs}
@@ -49,8 +49,11 @@ pub bounds : MethaneBounds
 bounds ls xs g methane =
     record {
       heat-low = λ c h. omega (arith, size-is c (inr h) ls xs, share-low c 1 802600 (heat-least c h) ls xs);
-      heat-high = λ c h. omega (arith, size-is c (inr h) ls xs, g .sum, share-high c 1 892970 (largest - 892970) (heat-most c h) (λ l. entry-below l c) ls xs);
+      heat-high = λ c h.
+          omega (arith, size-is c (inr h) ls xs, g .sum, share-high c 1 892970 largest (omega arith) (heat-most c h) (λ l. entry-below l c) ls xs);
       mass-low = omega (arith, size-is molarMass (inl refl) ls xs, share-low molarMass 1 160430 (omega (arith, mass-is)) ls xs);
-      mass-high = omega (arith, size-is molarMass (inl refl) ls xs, g .sum, share-high molarMass 1 160430 (heaviest - 160430) (omega (arith, mass-is)) mass-below ls xs);
-      summation-high = λ k h. omega (arith, sum-within-sizes (summation k) ls xs, g .sum, share-high (summation k) 1 490 (greatest-s - 490) (factor-most k h) (summation-below k h) ls xs);
+      mass-high =
+          omega (arith, size-is molarMass (inl refl) ls xs, g .sum, share-high molarMass 1 160430 heaviest (omega arith) (omega (arith, mass-is)) mass-below ls xs);
+      summation-high = λ k h.
+          omega (arith, sum-within-sizes (summation k) ls xs, g .sum, share-high (summation k) 1 490 greatest-s (omega arith) (factor-most k h) (summation-below k h) ls xs);
     }

@@ -2,7 +2,7 @@
 use mathlib.Core.Path.{_≡_, refl}
 use mathlib.Core.Bool.{Bool, true, false, cond}
 use mathlib.Core.List.{List, [], _∷_}
-use Prim.Native.Nat.{ℕ, _+_, _*_, _≤_, _<_, zero-le}
+use Prim.Native.Nat.{ℕ, _+_, _-_, _*_, _≤_, _<_, zero-le}
 use native.Mathlib.Numerals.{add-one}
 use native.Mathlib.Nat.{mul-le-mul-left}
 use native.Mathlib.Omega.{arith}
@@ -55,7 +55,7 @@ sum-within-sizes c (l ∷ ls) [] = zero-le
 sum-within-sizes c (l ∷ ls) (x ∷ xs) =
     omega (arith, sum-within-sizes c ls xs, natAbs-add (pos x *ℤ entryOf l c) (sumOf c ls xs), natAbs-mul x (entryOf l c))
 
--- One line k has a share of its own: its number has at most size a, every other at most a + e.
+-- Line k has a share of its own: its number has at most size a, every other at most a + e.
 module _ (c k a e : ℕ) (own : natAbs (entryOf k c) ≤ a) (other : (l : ℕ) → natAbs (entryOf l c) ≤ a + e) where
   high-step : (l x rest f sum : ℕ) (b : Bool) → (T b → l ≡ k) → rest + e * f ≤ (a + e) * sum
       → x * natAbs (entryOf l c) + rest + e * cond b x f ≤ (a + e) * (x + sum)
@@ -63,11 +63,18 @@ module _ (c k a e : ℕ) (own : natAbs (entryOf k c) ≤ a) (other : (l : ℕ) �
       let n : natAbs (entryOf l c) ≤ a = rw (is tt) own in omega (arith, mul-le-mul-left x n)
   high-step l x rest f sum false is h = omega (arith, mul-le-mul-left x (other l))
 
-  pub share-high : (ls xs : List ℕ) → sizes c ls xs + e * fractionFor k ls xs ≤ (a + e) * total xs
+  high : (ls xs : List ℕ) → sizes c ls xs + e * fractionFor k ls xs ≤ (a + e) * total xs
   unfolding sizes fractionFor total
-  share-high [] xs = omega arith
-  share-high (l ∷ ls) [] = omega arith
-  share-high (l ∷ ls) (x ∷ xs) = high-step l x _ _ _ (eqb l k) (λ t. eqb→eq l k t) (share-high ls xs)
+  high [] xs = omega arith
+  high (l ∷ ls) [] = omega arith
+  high (l ∷ ls) (x ∷ xs) = high-step l x _ _ _ (eqb l k) (λ t. eqb→eq l k t) (high ls xs)
+
+-- the same, with b for a + e
+pub share-high : (c k a b : ℕ) → a ≤ b → natAbs (entryOf k c) ≤ a → ((l : ℕ) → natAbs (entryOf l c) ≤ b) → (ls xs : List ℕ)
+    → sizes c ls xs + (b - a) * fractionFor k ls xs ≤ b * total xs
+share-high c k a b h own other ls xs =
+    let e : a + (b - a) ≡ b = omega arith in
+    rw e at (high c k a (b - a) own (λ l. omega (arith, other l)) ls xs)
 
 -- A share alone: line k has a number of at least size a.
 module _ (c k a : ℕ) (own : a ≤ natAbs (entryOf k c)) where
@@ -84,4 +91,4 @@ module _ (c k a : ℕ) (own : a ≤ natAbs (entryOf k c)) where
 
 -- Without a share: every number of the column has at most size b.
 pub sizes-high : (c b : ℕ) → ((l : ℕ) → natAbs (entryOf l c) ≤ b) → (ls xs : List ℕ) → sizes c ls xs ≤ b * total xs
-sizes-high c b all ls xs = omega (arith, share-high c 0 b 0 (all 0) (λ l. omega (arith, all l)) ls xs)
+sizes-high c b all ls xs = omega (arith, share-high c 0 b b (omega arith) (all 0) all ls xs)

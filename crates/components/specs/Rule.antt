@@ -31,11 +31,14 @@ water t = entryOf 42 (superior t)
 unfoldable pub allowance : ℕ → ℕ
 allowance l = cond (eqb l 21 || eqb l 22 || eqb l 23 || eqb l 45) 200 20
 
+-- 2 × (superior − inferior) − a × w, all at the t-th temperature
+abbrev pub excess : ℕ → ℕ → ℤ
+excess l t = pos 2 *ℤ (entryOf l (superior t) -ℤ entryOf l (inferior t)) -ℤ pos (atomsOf l) *ℤ water t
+
 -- the rule over the whole table: it holds of every line l from 1 to 55
 pub record Rule : Type 0 where
   -- 2 × (superior − inferior) differs from a × w at the same temperature by at most the allowance
-  pub hydrogen : (l t : ℕ) → 1 ≤ l → l ≤ 55 → t < 4
-      → natAbs (pos 2 *ℤ (entryOf l (superior t) -ℤ entryOf l (inferior t)) -ℤ pos (atomsOf l) *ℤ water t) ≤ allowance l
+  pub hydrogen : (l t : ℕ) → 1 ≤ l → l ≤ 55 → t < 4 → natAbs (excess l t) ≤ allowance l
   -- every s lies strictly between −10,000 and 10,000
   pub small : (l k : ℕ) → 1 ≤ l → l ≤ 55 → k < 3 → natAbs (entryOf l (summation k)) < 10000
 

@@ -9,7 +9,12 @@ unfolding near
 half-up = (refl, refl, refl, refl)
 
 -- -0.4 and -0.5 give 0, -0.6 and -1.5 give -1, -1.6 gives -2
-half-up-below-zero : (nearZ (negsuc 3) 10 ≡ pos 0) × (nearZ (negsuc 4) 10 ≡ pos 0) × (nearZ (negsuc 5) 10 ≡ negsuc 0) × (nearZ (negsuc 14) 10 ≡ negsuc 0) × (nearZ (negsuc 15) 10 ≡ negsuc 1)
+half-up-below-zero :
+    (nearZ (negsuc 3) 10 ≡ pos 0)
+    × (nearZ (negsuc 4) 10 ≡ pos 0)
+    × (nearZ (negsuc 5) 10 ≡ negsuc 0)
+    × (nearZ (negsuc 14) 10 ≡ negsuc 0)
+    × (nearZ (negsuc 15) 10 ≡ negsuc 1)
 unfolding nearZ floor
 half-up-below-zero = (refl, refl, refl, refl, refl)
 

@@ -1,5 +1,7 @@
 -- The signed sum of a column that has no number below 0 is that of its sizes, so the cast keeps it.
 use mathlib.Core.Path.{_≡_, sym, ap, _∙_}
+use mathlib.Core.List.{List}
+use Prim.Native.Nat.{ℕ, _*_, _≤_}
 use native.Mathlib.Omega.{arith}
 use borrow.Author.Needs.{sfits-of}
 use lib.IntN.{ℤ, pos, natAbs}
@@ -7,7 +9,7 @@ use mir.Syntax.{w64}
 use mir.Val.{toZ, ofZ}
 use mir.Facts.{toZ-ofZ}
 use Rattle.rounding.proofs.SignedWords.{cast-pos}
-use Rattle.components.specs.Composition.{sumOf}
+use Rattle.components.specs.Composition.{total, sumOf}
 use Rattle.components.proofs.Entries.{largest, entry-below, unsigned-column}
 use Rattle.components.proofs.SumLaws.{sizes, sizes-high, sum-is-sizes}
 use Rattle.components.proofs.amount.Statement.{statement}
@@ -21,17 +23,26 @@ module _ (c : tie.After-sum) where
   abbrev start : tie.Start
   start = c .before .before .before
 
-  same : sumOf (start .args .column) (start .args .lines .now) (start .args .fractions .now) ≡ pos (sizes (start .args .column) (start .args .lines .now) (start .args .fractions .now))
-  same = sum-is-sizes (start .args .column) (start .pre .1 .1) (start .args .lines .now) (start .args .fractions .now)
+  abbrev column : ℕ
+  column = start .args .column
 
-  value : toZ w64 (ofZ w64 (c .sum .result)) ≡ pos (sizes (start .args .column) (start .args .lines .now) (start .args .fractions .now))
+  abbrev lines : List ℕ
+  lines = start .args .lines .now
+
+  abbrev fractions : List ℕ
+  fractions = start .args .fractions .now
+
+  same : sumOf column lines fractions ≡ pos (sizes column lines fractions)
+  same = sum-is-sizes column (start .pre .1 .1) lines fractions
+
+  value : toZ w64 (ofZ w64 (c .sum .result)) ≡ pos (sizes column lines fractions)
   value = toZ-ofZ (sfits-of (c .sum .ok)) ∙ c .sum .ensures ∙ same
 
+  size : sizes column lines fractions ≤ largest * total fractions
+  size = sizes-high column largest (λ l. entry-below l column) lines fractions
+
 cast-result : tie.Need-cast-result
-cast-result c =
-    let a = start c .args in
-    cast-pos _ _ (value c)
-    (omega (arith, sizes-high (a .column) largest (λ l. entry-below l (a .column)) (a .lines .now) (a .fractions .now), start c .pre .1 .0 .sum))
+cast-result c = cast-pos _ _ (value c) (omega (arith, size c, start c .pre .1 .0 .sum))
 
 returns : tie.Need-returns
 returns c = ap (λ (z : ℤ). pos (natAbs z)) (value c) ∙ sym (same c)

@@ -36,7 +36,8 @@ mul-if2 c = omega (arith, middle-below (c .before .loop .inv))
 returns : tie.Need-returns Inv-loop μ-loop
 returns c =
     let b = c .before .before .loop .inv in
-    let r : Root ((c .before .before .loop .lo + c .before .before .loop .hi) / 2) (c .before .before .before .args .n) = record { square = omega arith; next = omega arith } in
+    let middle = (c .before .before .loop .lo + c .before .before .loop .hi) / 2 in
+    let r : Root middle (c .before .before .before .args .n) = record { square = omega arith; next = omega arith } in
     (found b r, (counted b r, omega (arith, few b)))
 
 add-lo : tie.Need-add-lo Inv-loop μ-loop
