@@ -1,4 +1,5 @@
--- Bounds of the sums of a composition with at least 500,000 ppm of methane, whatever its other lines are.
+-- Bounds of the sums of a composition with at least 500,000 ppm of methane (the house limit of document 01), whatever its other
+-- lines are.
 use mathlib.Core.List.{List}
 use Prim.Native.Nat.{ℕ, _≤_, _<_}
 use lib.IntN.{natAbs}
