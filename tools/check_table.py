@@ -4,19 +4,21 @@
 usage: tools/check_table.py SCAN     (SCAN: the text of source document 002)
 
 Cuts tables 1 to 5 out of the scan, then checks
-  second    every figure of tables 1 to 5 against a reading of the scan by eye, tools/reading/;
+  second    every figure of tables 1 to 5 against the second transcription of the scan, tools/reading/;
   table     each of the 660 numbers, and each name, of crates/components/specs/Table.antt against tables 1 to 3;
   atoms     the hydrogen atoms of crates/components/specs/Rule.antt against the formulas below;
   mass      table 1 against the atomic masses that the source prints under it;
   factor    each s of table 2 against its z: s is the root of 1 - z, to its last digit;
   hydrogen  2 x (superior - inferior) of table 3 against hydrogen atoms x water's superior value: document 01's rule;
+  steps     the values of table 3 from temperature to temperature: 15 - 20 °C as 20 - 25 °C to 0.05 kJ/mol, and 0 - 15 °C as
+            three times 15 - 20 °C to 0.15; for lines with one decimal to 0.2 and 0.3;
   table 4   per kilogram, from table 3 and the molar mass before rounding, as its heading says;
   table 5   per cubic metre, from table 3 and p / (R T).
 Each check prints how many figures are equal; how many differ by no more than the rounding of the printed figures that they
 come from (for hydrogen, than document 01 allows); and how many otherwise; and, with its place, every figure that is not
 equal. The exit status is 1 unless those that differ otherwise, or cannot be checked, are just those of KNOWN.
 A figure of table 4 or 5 has two decimals, so it tells a value of table 3 to some 0.1 kJ/mol; hydrogen tells a difference of
-two values to 0.01.
+two values to 0.01; steps tells a value at 25, 20 or 15 °C to some 0.05.
 """
 import csv
 import os
@@ -32,7 +34,7 @@ CORRECTED = {
     (5, 6, 7): ("14596", "145.96"),
 }
 # What contradicts a check by more than rounding, or cannot be checked by it: (check, line). docs/MISPRINTS.md has each.
-KNOWN = {("mass", 49), ("mass", 50), ("mass", 51), ("factor", 41), ("factor", 49), ("factor", 50)}
+KNOWN = {("mass", 49), ("mass", 50), ("mass", 51), ("factor", 41), ("factor", 49), ("factor", 50), ("steps", 4)}
 
 FORMULAS = """CH4 C2H6 C3H8 C4H10 C4H10 C5H12 C5H12 C5H12 C6H14 C6H14 C6H14 C6H14 C6H14 C7H16 C8H18 C9H20 C10H22 C2H4 C3H6
 C4H8 C4H8 C4H8 C4H8 C5H10 C3H4 C4H6 C4H6 C2H2 C5H10 C6H12 C7H14 C6H12 C7H14 C8H16 C6H6 C7H8 C8H10 C8H10 CH4O CH4S H2 H2O
@@ -124,7 +126,7 @@ TOP = os.path.join(os.path.dirname(__file__), "..")
 
 
 def second_reading(number):
-    """A table as it was read by eye: line -> list of decimals as text, the name first for table 1."""
+    """A table of the second transcription: line -> list of decimals as text, the name first for table 1."""
     with open(os.path.join(TOP, "tools", "reading", f"table{number}.csv"), encoding="utf-8", newline="") as text:
         return {int(row[0]): row[1:] for row in list(csv.reader(text))[1:]}
 
@@ -193,12 +195,12 @@ class Check:
 
 
 def second(tables):
-    """Every figure against the reading by eye."""
+    """Every figure against the second transcription."""
     check = Check("second")
     for number, table in tables.items():
-        read_by_eye = second_reading(number)
+        transcribed = second_reading(number)
         for line, row in table.items():
-            for column, (one, two) in enumerate(zip(row, read_by_eye[line][-len(row):], strict=True)):
+            for column, (one, two) in enumerate(zip(row, transcribed[line][-len(row):], strict=True)):
                 check.compare(line, f"table {number}, figure {column}", one, two, one == two, False)
     return check.report()
 
@@ -258,6 +260,17 @@ def hydrogens(tables):
     return check.report()
 
 
+def steps(tables):
+    check = Check("steps")
+    for line, row in tables[3].items():
+        near, far = (D("0.2"), D("0.3")) if line in ONE_DECIMAL else (D("0.05"), D("0.15"))
+        for kind, values in (("superior", row[0::2]), ("inferior", row[1::2])):
+            at25, at20, at15, at0 = map(D, values)
+            check.compare(line, f"{kind}, 15 - 20 °C", at15 - at20, at20 - at25, abs((at15 - at20) - (at20 - at25)) <= near, False)
+            check.compare(line, f"{kind}, 0 - 15 °C", at0 - at15, 3 * (at15 - at20), abs((at0 - at15) - 3 * (at15 - at20)) <= far, False)
+    return check.report()
+
+
 def per_kilogram(tables):
     check = Check("table 4")
     for line, row in tables[4].items():
@@ -285,7 +298,7 @@ def main():
         sys.exit(__doc__)
     tables = read(sys.argv[1])
     print("tables 1 to 5:", sum(len(row) for table in tables.values() for row in table.values()), "figures,", len(CORRECTED), "of them corrected")
-    found = set().union(*(check(tables) for check in (second, component_table, hydrogen_atoms, masses, factors, hydrogens, per_kilogram, per_cubic_metre)))
+    found = set().union(*(check(tables) for check in (second, component_table, hydrogen_atoms, masses, factors, hydrogens, steps, per_kilogram, per_cubic_metre)))
     for name, line in sorted(found ^ KNOWN):
         print(f"{name}, line {line}:", "not in KNOWN" if (name, line) in found else "in KNOWN, and not found")
     sys.exit(1 if found != KNOWN else 0)
