@@ -1,15 +1,17 @@
--- The rule over the whole table: each part is computed once over all lines, and carried to each line.
+-- The shape, the rule, and the signs and zeros of the table: each part is computed once over all lines, and carried to each line.
 use mathlib.Core.Path.{_≡_, refl}
 use mathlib.Core.Bool.{Bool, true, false, not, _||_}
-use Prim.Native.Nat.{ℕ, zero, suc, _<_}
+use mathlib.Core.List.{List, []}
+use Prim.Native.Nat.{ℕ, zero, suc, _-_, _<_}
 use native.Mathlib.Omega.{arith}
-use lib.Dec.{T, leb, ltb, eqb, leb→le}
+use lib.Dec.{T, leb, ltb, eqb, leb→le, eqb→eq}
 use lib.IntN.{ℤ, pos, negsuc, natAbs}
+use lib.ListN.{getD, length}
 use lib.Signed.{nonNeg}
 use borrow.Author.Tests.{le-ltb}
 use Rattle.components.specs.Table.{componentTable, entryOf, summation}
-use Rattle.components.specs.Rule.{hydrogenAtoms, allowance, excess, Rule, Columns}
-use Rattle.components.proofs.Every.{at₂, unless}
+use Rattle.components.specs.Rule.{hydrogenAtoms, allowance, excess, Shape, Rule, Columns}
+use Rattle.components.proofs.Every.{at, at₂, unless}
 use Rattle.components.proofs.Entries.{summation-below}
 
 -- two tests agree
@@ -35,7 +37,10 @@ isZero→eq (pos zero) t = refl
 isZero→eq (pos (suc n)) t = absurd t
 isZero→eq (negsuc n) t = absurd t
 
--- the tests: at every line l below 56, of which l = 0 is excepted, and at every column of its kind
+-- the tests: at every row; at every line l below 56, of which l = 0 is excepted, and at every column of its kind
+twelve : List ℤ → Bool
+twelve row = eqb (length row) 12
+
 hydrogen : ℕ → ℕ → Bool
 hydrogen l t = ltb l 1 || leb (natAbs (excess l t)) (allowance l)
 
@@ -56,6 +61,15 @@ sign-at l k hl hk = at₂ sign 56 3 tt l k hl hk
 no-heat-at : (l c : ℕ) → l < 56 → c < 12 → T (no-heat l c)
 unfolding no-heat isZero componentTable
 no-heat-at l c hl hc = at₂ no-heat 56 12 tt l c hl hc
+
+-- row k has twelve numbers
+row-length : (k : ℕ) → k < 55 → length (getD componentTable k []) ≡ 12
+unfolding twelve componentTable
+row-length k h = eqb→eq _ 12 (at (λ (k : ℕ). twelve (getD componentTable k [])) 55 tt k h)
+
+pub shape : Shape
+unfolding componentTable
+shape = record { lines = refl; columns = λ l lo hi. row-length (l - 1) (omega arith) }
 
 pub rule : Rule
 unfolding hydrogen

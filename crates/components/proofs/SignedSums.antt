@@ -1,5 +1,5 @@
 -- Sizes of signed sums and products, and a signed word of 32 bits read at 64.
-use mathlib.Core.Path.{_≡_, refl, ap, _∙_}
+use mathlib.Core.Path.{_≡_, refl, _∙_}
 use mathlib.Core.Bool.{Bool, true, false, cond}
 use Prim.Native.Nat.{ℕ, suc, _+_, _-_, _*_, _≤_}
 use native.Mathlib.Nat.{le-refl}
@@ -29,5 +29,9 @@ pub natAbs-mul : (x : ℕ) (z : ℤ) → natAbs (pos x *ℤ z) ≡ x * natAbs z
 natAbs-mul x (pos n) = refl
 natAbs-mul x (negsuc n) = natAbs-neg (x * suc n)
 
+-- a number of 32 bits, cast to 64, fits there and is the same number
+pub widens : (z : ℤ) → SFits w32 z → SFits w64 (toZ w32 (ofZ w32 z))
+widens z f = rw (toZ-ofZ f) (sfits-widen tt f)
+
 pub wider : (z : ℤ) → SFits w32 z → toZ w64 (ofZ w64 (toZ w32 (ofZ w32 z))) ≡ z
-wider z f = ap (λ (y : ℤ). toZ w64 (ofZ w64 y)) (toZ-ofZ f) ∙ toZ-ofZ (sfits-widen tt f)
+wider z f = toZ-ofZ (widens z f) ∙ toZ-ofZ f

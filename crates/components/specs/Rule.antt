@@ -1,13 +1,18 @@
--- The rule of document 01 over the whole component table.
+-- What document 01 says of the whole component table: its shape, its rule, and its signs and zeros.
 use mathlib.Core.Path.{_≡_}
 use mathlib.Core.Bool.{not, cond, _||_}
 use mathlib.Core.List.{List, [], _∷_}
 use Prim.Native.Nat.{ℕ, _-_, _≤_, _<_}
 use lib.Dec.{eqb}
 use lib.IntN.{ℤ, pos, natAbs, _*ℤ_, _-ℤ_}
-use lib.ListN.{getD}
+use lib.ListN.{getD, length}
 use lib.Signed.{nonNeg}
-use Rattle.components.specs.Table.{entryOf, summation, superior, inferior, Heat}
+use Rattle.components.specs.Table.{componentTable, entryOf, summation, superior, inferior, Heat}
+
+-- 55 lines of twelve columns
+pub record Shape : Type 0 where
+  pub lines : length componentTable ≡ 55
+  pub columns : (l : ℕ) → 1 ≤ l → l ≤ 55 → length (getD componentTable (l - 1) []) ≡ 12
 
 -- the hydrogen atoms of a molecule of each line, ten lines a row
 unfoldable pub hydrogenAtoms : List ℕ
@@ -42,7 +47,7 @@ pub record Rule : Type 0 where
   -- every s lies strictly between −10,000 and 10,000
   pub small : (l k : ℕ) → 1 ≤ l → l ≤ 55 → k < 3 → natAbs (entryOf l (summation k)) < 10000
 
--- what document 01 says of single columns
+-- what document 01 says of single columns, and that hydrogen's s are the only negative ones
 pub record Columns : Type 0 where
   -- s of hydrogen, line 41, is negative at all three temperatures; of the other lines it is not
   pub sign : (l k : ℕ) → 1 ≤ l → l ≤ 55 → k < 3 → nonNeg (entryOf l (summation k)) ≡ not (eqb l 41)

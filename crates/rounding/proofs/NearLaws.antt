@@ -4,10 +4,10 @@ use mathlib.Core.Path.{_≡_, refl}
 use Prim.Native.Nat.{ℕ, suc, _+_, _*_, _-_, _/_, _≤_, _<_}
 use native.Mathlib.Nat.{div-mul-le-self, lt-div-mul-add, le-div-iff-mul-le, div-eq-of-lt-le, le-of-mul-le-mul-right}
 use native.Mathlib.Omega.{arith}
-use lib.IntN.{pos, negsuc, negℤ, natAbs}
+use lib.IntN.{pos, negsuc, negℤ}
 use Rattle.rounding.specs.Near.{near, nearZ, floor}
 use Rattle.rounding.specs.Fraction.{Within, _over_, half}
-use Rattle.rounding.specs.Laws.{NearHalf, NearMonotone, NearExact, NearZHalf}
+use Rattle.rounding.specs.Laws.{NearHalf, NearMonotone, NearExact, NearZPos, NearZNeg, NearZHalf}
 use Rattle.rounding.proofs.SignedWords.{natAbs-neg}
 use Rattle.rounding.proofs.Signs.{nearZ-is}
 
@@ -41,7 +41,7 @@ at-least {r} {n} {q} {b} w l =
     omega arith
 
 -- on the signed scale: where n is not below 0 it is that number; where n is below 0 it is not above 0
-pub nearZ-pos : (n q : ℕ) → nearZ (pos n) q ≡ pos (near n q)
+pub nearZ-pos : NearZPos
 unfolding nearZ near floor
 nearZ-pos n q = refl
 
@@ -56,7 +56,7 @@ nearZ-size n q h p =
     let high = lt-div-mul-add {a = 2 * n + q - 1} {b = 2 * q} (omega arith) in
     (nearZ-is n q ((2 * n + q - 1) / (2 * q)) h (omega arith) (omega arith), record { proper = (h, omega arith); below = omega arith; above = omega arith })
 
-pub nearZ-neg : (n q : ℕ) → 0 < q → nearZ (negsuc n) q ≡ negℤ (pos (natAbs (nearZ (negsuc n) q)))
+pub nearZ-neg : NearZNeg
 nearZ-neg n q h = let e = nearZ-size (suc n) q h (omega arith) .0 in rw (e, natAbs-neg)
 
 -- its size is within a half of the size of n/q

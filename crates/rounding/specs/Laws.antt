@@ -1,7 +1,7 @@
--- What is shown of the definitions of this crate, as statements; the proofs of the same names are in proofs/.
+-- What is shown of the definitions of this crate, as statements. `NearHalf` is proved as `near-half` in proofs/, and so each.
 use mathlib.Core.Path.{_≡_}
 use Prim.Native.Nat.{ℕ, _+_, _*_, _^_, _≤_, _<_}
-use lib.IntN.{ℤ, natAbs}
+use lib.IntN.{ℤ, pos, negsuc, negℤ, natAbs}
 use Rattle.rounding.specs.Near.{near, nearZ}
 use Rattle.rounding.specs.Fraction.{Fraction, Within, _over_, half, whole, plus, times}
 use Rattle.rounding.specs.Root.{Root, root}
@@ -18,7 +18,15 @@ NearMonotone = (n m q : ℕ) → 0 < q → n ≤ m → near n q ≤ near m q
 abbrev pub NearExact : Type 0
 NearExact = (k q : ℕ) → 0 < q → near (k * q) q ≡ k
 
--- on the signed scale the size of near differs from that of n/q by at most a half
+-- on the signed scale near is the same number where n is not below 0
+abbrev pub NearZPos : Type 0
+NearZPos = (n q : ℕ) → nearZ (pos n) q ≡ pos (near n q)
+
+-- and not above 0 where n is below 0
+abbrev pub NearZNeg : Type 0
+NearZNeg = (n q : ℕ) → 0 < q → nearZ (negsuc n) q ≡ negℤ (pos (natAbs (nearZ (negsuc n) q)))
+
+-- its size differs from that of n/q by at most a half
 abbrev pub NearZHalf : Type 0
 NearZHalf = (z : ℤ) (q : ℕ) → 0 < q → Within half (natAbs (nearZ z q)) (natAbs z over q)
 

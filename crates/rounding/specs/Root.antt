@@ -27,6 +27,6 @@ unfoldable pub roundsTo : ℕ → ℕ → ℕ → ℕ → ℕ
 roundsTo r zero lo hi = 0
 roundsTo r (suc k) lo hi = roundAt (roundsTo r k) r lo ((lo + hi) / 2) hi
 
--- the rounds of the search for the integer root of n: 33 are enough for every n below 2^64
+-- the rounds of the search for the integer root of n, which document 01 leaves to the program: 33 are enough for every n below 2^64
 unfoldable pub rootRounds : ℕ → ℕ
 rootRounds n = roundsTo (root n) 33 0 4294967296

@@ -5,9 +5,9 @@ use borrow.Author.Needs.{needs}
 use lib.IntN.{pos, _+ℤ_, _*ℤ_}
 use mir.Syntax.{w64}
 use mir.Val.{SFits, toZ}
-use mir.Facts.{toZ-ofZ, sfits-widen}
+use mir.Facts.{toZ-ofZ}
 use Rattle.rounding.proofs.SignedWords.{fits64, toZ-pos}
-use Rattle.components.proofs.SignedSums.{natAbs-add, natAbs-mul, wider}
+use Rattle.components.proofs.SignedSums.{natAbs-add, natAbs-mul, widens, wider}
 use Rattle.components.proofs.add_product.Statement.{statement}
 use Rattle.components.proofs.add_product.Tie as tie
 
@@ -26,7 +26,7 @@ cast-result : tie.Need-cast-result
 cast-result c = search needs
 
 cast-result-2 : tie.Need-cast-result-2
-cast-result-2 c = rw (toZ-ofZ (c .fits .n)) (sfits-widen tt (c .fits .n))
+cast-result-2 c = widens (c .args .n) (c .fits .n)
 
 mul-result : tie.Need-mul-result
 mul-result c = rw (x-is c, wider (c .args .n) (c .fits .n)) (product c)

@@ -2,11 +2,8 @@
 use Prim.Native.Nat.{_≤_, _-_}
 use native.Mathlib.Omega.{arith}
 use borrow.Author.Needs.{needs, sfits-of}
-use mir.Syntax.{w32}
-use mir.Val.{SFits}
-use mir.Facts.{toZ-ofZ, sfits-widen}
 use Rattle.components.proofs.Entries.{entry-below}
-use Rattle.components.proofs.SignedSums.{wider}
+use Rattle.components.proofs.SignedSums.{widens, wider}
 use Rattle.print_components.proofs.print_line.Statement.{statement}
 use Rattle.print_components.proofs.print_line.Tie as tie
 
@@ -27,8 +24,7 @@ entry-requires c κs =
     let p = c .before .before .before .pre in (p .0, (p .1 .0, p .1 .1, omega arith))
 
 cast-print-number : tie.Need-cast-print-number Inv-loop μ-loop
-cast-print-number c =
-    let f : SFits w32 (c .entry .result) = sfits-of (c .entry .ok) in rw (toZ-ofZ f) (sfits-widen tt f)
+cast-print-number c = widens (c .entry .result) (sfits-of (c .entry .ok))
 
 print-number-requires : tie.Need-print-number-requires Inv-loop μ-loop
 print-number-requires c κs =
