@@ -1,0 +1,52 @@
+-- What is known of a record, and of contents to be written, where the first conditions of their orders do not hold.
+use mathlib.Core.Path.{_≡_, sym, _∙_}
+use mathlib.Core.Bool.{Bool, true, false, not}
+use mathlib.Core.List.{List, _++_}
+use Prim.Native.Nat.{ℕ, _≤_}
+use borrow.Author.Tests.{ltb-false, not-false, eqb-true, eqb-false}
+use lib.ListN.{length}
+use Rattle.records.specs.Order.{firstOf}
+use Rattle.records.specs.Format.{Contents, recordLength, combustionIn, meteringIn, countIn}
+use Rattle.records.specs.Conditions.{permitted, markDiffers, versionDiffers, countOutside, headOrder, startOrder}
+use Rattle.records.proofs.OrderLaws.{unmet, neither}
+
+pub record Count (n : ℕ) : Type 0 where
+  pub some : n ≡ 0 → ⊥
+  pub few : n ≤ 55
+
+count : (n : ℕ) → countOutside n ≡ false → Count n
+count n h = let e = neither _ _ h in record { some = eqb-false _ _ (e .0); few = ltb-false _ _ (e .1) }
+
+pub record Head (bs : List ℕ) : Type 0 where
+  pub long : 8 ≤ length bs
+  pub mark : markDiffers bs ≡ false
+  pub version : versionDiffers bs ≡ false
+  pub pair : permitted (combustionIn bs) (meteringIn bs) ≡ true
+  pub entries : Count (countIn bs)
+  pub exact : length bs ≡ recordLength (countIn bs)
+
+pub head : (bs : List ℕ) → firstOf (headOrder bs) ≡ 0 → Head bs
+head bs e =
+    let h = unmet (headOrder bs) tt e in
+    record {
+      long = ltb-false _ _ (h 1);
+      mark = h 2;
+      version = h 3;
+      pair = not-false _ (h 4);
+      entries = count _ (h 5);
+      exact = eqb-true _ _ (not-false _ (h 6));
+    }
+
+pub record Start (k : Contents) : Type 0 where
+  pub same : length (k .lines) ≡ length (k .fractions)
+  pub pair : permitted (k .combustion) (k .metering) ≡ true
+  pub entries : Count (length (k .lines))
+
+pub start : (k : Contents) → firstOf (startOrder k) ≡ 0 → Start k
+start k e =
+    let h = unmet (startOrder k) tt e in
+    record {
+      same = eqb-true _ _ (not-false _ (h 19));
+      pair = not-false _ (h 4);
+      entries = count _ (h 5);
+    }

@@ -1,0 +1,8 @@
+pub mod OrderLaws
+pub mod Placing
+pub mod Heads
+pub mod RoundTrips
+mod Scans
+mod Digits
+mod Entries
+pub mod ReadLaws

@@ -1,0 +1,26 @@
+-- Bytes placed in a buffer.
+use mathlib.Core.Path.{_≡_, sym, ap, _∙_}
+use mathlib.Core.List.{List, [], _++_, append-assoc, append-nil}
+use Prim.Native.Nat.{ℕ, _+_, _≤_}
+use native.Mathlib.Nat.{add-assoc, add-zero}
+use native.Mathlib.Omega.{arith}
+use lib.ListN.{length, take, drop, length-append, length-drop, take-append-drop}
+use lib.Seq.{take-at, drop-append-add, drop-drop, length-take-le}
+use Rattle.records.specs.Format.{placed}
+
+pub placed-none : (old : List ℕ) (at : ℕ) → old ≡ placed old at []
+placed-none old at = sym (ap (λ (l : List ℕ). l ++ drop (at + 0) old) (append-nil (take at old)) ∙ rw add-zero (take-append-drop at old))
+
+-- bytes, and more of them right after
+pub placed-after : (old bs es : List ℕ) (at next : ℕ) → at ≤ length old → at + length bs ≡ next → placed (placed old at bs) next es ≡ placed old at (bs ++ es)
+placed-after old bs es at next h e =
+    let p : List ℕ = take at old ++ bs in
+    let rest : List ℕ = drop (at + length bs) old in
+    let hp : length p ≡ next = length-append (take at old) bs ∙ ap (λ (k : ℕ). k + length bs) (length-take-le at old h) ∙ e in
+    let i : at + length bs + length es ≡ at + length (bs ++ es) = add-assoc at (length bs) (length es) ∙ ap (λ (k : ℕ). at + k) (sym (length-append bs es)) in
+    let d : drop (next + length es) (p ++ rest) ≡ drop (at + length (bs ++ es)) old =
+    ap (λ (k : ℕ). drop (k + length es) (p ++ rest)) (sym hp) ∙ drop-append-add p rest (length es) ∙ drop-drop (length es) (at + length bs) old ∙ ap (λ (k : ℕ). drop k old) i in
+    rw (take-at p rest next hp, d, append-assoc (take at old) bs es)
+
+pub length-placed : (old bs : List ℕ) (at : ℕ) → at + length bs ≤ length old → length (placed old at bs) ≡ length old
+length-placed old bs at h = simp (length-append, length-drop, length-take-le at old (omega arith)) (omega arith)

@@ -1,0 +1,46 @@
+-- The scan keeps that the line numbers left, after the one before, break condition 7 just where all of them do.
+use mathlib.Core.Path.{_≡_, refl, _∙_}
+use Prim.Native.Nat.{_-_, _≤_}
+use native.Mathlib.Omega.{arith}
+use lib.ListN.{length, drop, drop-of-length-le}
+use Rattle.records.specs.Conditions.{lineBreaks}
+use Rattle.records.proofs.Scans.{lines-step}
+use Rattle.records.proofs.conditions.lines_refusal.Statement.{statement}
+use Rattle.records.proofs.conditions.lines_refusal.Tie as tie
+
+abbrev Inv-scan : tie.InvT-scan
+Inv-scan lines before₀ k₀ before k = (k ≤ length lines) × (lineBreaks 0 lines ≡ lineBreaks before (drop k lines))
+
+abbrev μ-scan : tie.MeasureT-scan
+μ-scan lines before₀ k₀ before k = length lines - k
+
+scan-holds : tie.Need-scan-holds Inv-scan μ-scan
+scan-holds c = (omega arith, refl)
+
+shared-slice-read-line : tie.Need-shared-slice-read-line Inv-scan μ-scan
+shared-slice-read-line c = omega arith
+
+add-k : tie.Need-add-k Inv-scan μ-scan
+add-k c = omega arith
+
+scan-less : tie.Need-scan-less Inv-scan μ-scan
+scan-less c = omega arith
+
+scan-again : tie.Need-scan-again Inv-scan μ-scan
+scan-again c =
+    let at = c .before .before .before in
+    (omega arith, at .scan .inv .1 ∙ lines-step _ (at .before .args .lines .now) (at .scan .k) (omega arith) ∙ rw (c .if2 .left))
+
+returns : tie.Need-returns Inv-scan μ-scan
+unfolding lineBreaks
+returns c = rw (c .before .scan .inv .1, drop-of-length-le (c .before .before .args .lines .now) (c .if1 .taken))
+
+returns-2 : tie.Need-returns-2 Inv-scan μ-scan
+returns-2 c =
+    let at = c .before .before .before in
+    rw (at .scan .inv .1, lines-step _ (at .before .args .lines .now) (at .scan .k) (omega arith), c .if2 .taken)
+
+pub lines-refusal-spec : {M : Type 1} → statement M
+lines-refusal-spec =
+    tie.close
+    (tie.spec Inv-scan μ-scan scan-holds shared-slice-read-line add-k scan-less scan-again returns returns-2)

@@ -1,0 +1,54 @@
+-- The answers of the calls on a record: document 01's number and values for each case, and what each call gives.
+use mathlib.Core.Path.{_≡_}
+use mathlib.Core.List.{List, _++_}
+use Prim.Native.Nat.{ℕ}
+use lib.ListN.{length, drop, replicate}
+use Rattle.records.specs.declared.Verdict.{Verdict}
+use Rattle.records.specs.declared.Verdict.the-variants.{Accepted, Refused}
+use Rattle.records.specs.declared.Analysis.{Analysis}
+use Rattle.records.specs.declared.Reading.{Reading}
+use Rattle.records.specs.Order.{Outcome, refused, accepted, after, mapped}
+use Rattle.records.specs.Format.{Contents}
+use Rattle.records.specs.Calls.{readingOf, writingOf, rewritingOf}
+
+module _ {A : Type 0} where
+  -- document 01's number, or the value, of each case of a verdict
+  abbrev pub meaning : Verdict → A → Outcome A
+  meaning Accepted value = accepted value
+  meaning (Refused n) value = refused n
+
+  -- A verdict and a value give an outcome: they mean it, and where it is a refusal the value is what was there before.
+  pub record Gives (outcome : Outcome A) (before : A) (verdict : Verdict) (value : A) : Type 0 where
+    pub means : meaning verdict value ≡ outcome
+    pub leaves : value ≡ after before outcome
+
+-- the first elements of an array of 55, and 0 past them
+abbrev pub padded : List ℕ → List ℕ
+padded l = l ++ drop (length l) (replicate 55 0)
+
+-- contents as the reader answers them
+abbrev pub held : Contents → Analysis
+held k =
+    record {
+      combustion = k .combustion;
+      metering = k .metering;
+      count = length (k .lines);
+      lines = padded (k .lines);
+      fractions = padded (k .fractions);
+    }
+
+-- what stands beside a refusal: 0 everywhere
+abbrev pub blank : Analysis
+blank = record { combustion = 0; metering = 0; count = 0; lines = replicate 55 0; fractions = replicate 55 0 }
+
+-- the reader's answer
+abbrev pub Reads : List ℕ → Reading → Type 0
+Reads bs r = Gives (mapped held (readingOf bs)) blank (r .verdict) (r .analysis)
+
+-- the writer's answer, and the buffer afterwards
+abbrev pub Writes : Contents → List ℕ → List ℕ → Verdict → Type 0
+Writes k old new r = Gives (writingOf k old) old r new
+
+-- the same for reading a record and writing it again
+abbrev pub Rewrites : List ℕ → List ℕ → List ℕ → Verdict → Type 0
+Rewrites bs old new r = Gives (rewritingOf bs old) old r new

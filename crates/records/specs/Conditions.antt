@@ -1,0 +1,140 @@
+-- The conditions of refusal of a record and of the record writer, with document 01's numbers, and their orders.
+use mathlib.Core.Path.{_≡_}
+use mathlib.Core.Bool.{Bool, true, false, not, _&&_, _||_, cond}
+use mathlib.Core.List.{List, [], _∷_, _++_}
+use Prim.Native.Nat.{ℕ}
+use lib.Dec.{eqb, leb, ltb}
+use lib.ListN.{length, getD}
+use Rattle.components.specs.Composition.{total, fractionFor}
+use Rattle.records.specs.Order.{Order, firstOf}
+use Rattle.records.specs.Format.{Contents, mark, version, recordLength, number2, combustionIn, meteringIn, countIn, linesIn, fractionsIn}
+
+-- the six permitted pairs, combustion/metering
+abbrev pub permitted : ℕ → ℕ → Bool
+permitted c m =
+    eqb c 15 && eqb m 15
+    || eqb c 0 && eqb m 0
+    || eqb c 15 && eqb m 0
+    || eqb c 25 && eqb m 0
+    || eqb c 20 && eqb m 20
+    || eqb c 25 && eqb m 20
+
+abbrev pub methane : ℕ
+methane = 1
+
+abbrev pub ethane : ℕ
+ethane = 2
+
+abbrev pub water : ℕ
+water = 42
+
+abbrev pub nitrogen : ℕ
+nitrogen = 52
+
+abbrev pub carbonDioxide : ℕ
+carbonDioxide = 54
+
+-- the highest fraction of a line in ppm; methane has none
+abbrev pub limitOf : ℕ → ℕ
+limitOf l =
+    cond (eqb l nitrogen) 300000
+    (cond (eqb l ethane || eqb l carbonDioxide) 150000
+    (cond (eqb l water) 200
+    50000))
+
+-- 2: mark differs
+abbrev pub markDiffers : List ℕ → Bool
+markDiffers bs =
+    not (eqb (getD bs 0 0) (getD mark 0 0)) || not (eqb (getD bs 1 0) (getD mark 1 0)) || not (eqb (getD bs 2 0) (getD mark 2 0))
+
+-- 3: version is not 1
+abbrev pub versionDiffers : List ℕ → Bool
+versionDiffers bs = not (eqb (number2 bs 3) version)
+
+-- 4: pair not permitted
+abbrev pub pairRefused : ℕ → ℕ → Bool
+pairRefused c m = not (permitted c m)
+
+-- 5: n is 0 or above 55
+abbrev pub countOutside : ℕ → Bool
+countOutside n = eqb n 0 || ltb 55 n
+
+-- 6: length is not 8 + 5n
+abbrev pub lengthDiffers : List ℕ → Bool
+lengthDiffers bs = not (eqb (length bs) (recordLength (countIn bs)))
+
+-- 7: a line number outside 1 to 55, or not above the one before (0 before the first)
+unfoldable pub lineBreaks : ℕ → List ℕ → Bool
+lineBreaks before [] = false
+lineBreaks before (l ∷ ls) = leb l before || ltb 55 l || lineBreaks l ls
+
+-- 8: a fraction is 0
+unfoldable pub fractionZero : List ℕ → Bool
+fractionZero [] = false
+fractionZero (x ∷ xs) = eqb x 0 || fractionZero xs
+
+-- 9: sum outside its range
+abbrev pub sumOutside : List ℕ → Bool
+sumOutside xs = ltb (total xs) 999900 || ltb 1000100 (total xs)
+
+-- 10: methane too low (500,000 is a house limit)
+abbrev pub methaneLow : List ℕ → List ℕ → Bool
+methaneLow ls xs = ltb (fractionFor methane ls xs) 500000
+
+-- 11: a line other than methane and water above its limit
+abbrev pub aboveLimit : ℕ → ℕ → Bool
+aboveLimit l x = not (eqb l methane) && not (eqb l water) && ltb (limitOf l) x
+
+unfoldable pub anyAbove : List ℕ → List ℕ → Bool
+anyAbove [] xs = false
+anyAbove (l ∷ ls) [] = false
+anyAbove (l ∷ ls) (x ∷ xs) = aboveLimit l x || anyAbove ls xs
+
+-- 12: water above 200
+abbrev pub waterHigh : List ℕ → List ℕ → Bool
+waterHigh ls xs = ltb (limitOf water) (fractionFor water ls xs)
+
+-- 19: the two lists differ in length
+abbrev pub listsDiffer : List ℕ → List ℕ → Bool
+listsDiffer ls xs = not (eqb (length ls) (length xs))
+
+-- 20: buffer shorter than 8 + 5n
+abbrev pub roomShort : ℕ → ℕ → Bool
+roomShort room n = ltb room (recordLength n)
+
+-- 2 to 6, from what holds of the mark, the version, the pair, the count and the length
+abbrev pub fieldsOrder : Bool → Bool → Bool → Bool → Bool → Order
+fieldsOrder mark version pair count length = (2, mark) ∷ (3, version) ∷ (4, pair) ∷ (5, count) ∷ (6, length) ∷ []
+
+-- 9 to 12, from what holds of the sum, of methane, of the other lines and of water
+abbrev pub limitsOrder : Bool → Bool → Bool → Bool → Order
+limitsOrder sum methane others water = (9, sum) ∷ (10, methane) ∷ (11, others) ∷ (12, water) ∷ []
+
+-- 19, 4 and 5, from what holds of the lists, the pair and the count
+abbrev pub listsOrder : Bool → Bool → Bool → Order
+listsOrder lists pair count = (19, lists) ∷ (4, pair) ∷ (5, count) ∷ []
+
+-- the order of a record, in two parts: 1 to 6, and 7 to 12, which the writer shares
+abbrev pub headOrder : List ℕ → Order
+headOrder bs =
+    (1, ltb (length bs) 8)
+    ∷ fieldsOrder (markDiffers bs) (versionDiffers bs) (pairRefused (combustionIn bs) (meteringIn bs)) (countOutside (countIn bs)) (lengthDiffers bs)
+
+abbrev pub contentOrder : List ℕ → List ℕ → Order
+contentOrder ls xs =
+    (7, lineBreaks 0 ls)
+    ∷ (8, fractionZero xs)
+    ∷ limitsOrder (sumOutside xs) (methaneLow ls xs) (anyAbove ls xs) (waterHigh ls xs)
+
+abbrev pub recordOrder : List ℕ → Order
+recordOrder bs = headOrder bs ++ contentOrder (linesIn bs) (fractionsIn bs)
+
+-- the order of the writer, in three parts: 19, 4 and 5; 7 to 12; 20 for a buffer of room bytes
+abbrev pub startOrder : Contents → Order
+startOrder k = listsOrder (listsDiffer (k .lines) (k .fractions)) (pairRefused (k .combustion) (k .metering)) (countOutside (length (k .lines)))
+
+abbrev pub roomOrder : ℕ → ℕ → Order
+roomOrder room n = (20, roomShort room n) ∷ []
+
+abbrev pub writerOrder : Contents → ℕ → Order
+writerOrder k room = startOrder k ++ (contentOrder (k .lines) (k .fractions) ++ roomOrder room (length (k .lines)))

@@ -1,0 +1,6 @@
+pub mod Order
+pub mod Format
+pub mod Conditions
+pub mod Calls
+pub mod Answers
+pub mod RoundTrips

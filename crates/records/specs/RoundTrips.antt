@@ -1,0 +1,18 @@
+-- The round trips: a record read and written again has the same bytes, and contents written and read again are the same.
+use mathlib.Core.Path.{_≡_}
+use mathlib.Core.List.{List}
+use Prim.Native.Nat.{ℕ, _≤_}
+use lib.ListN.{length, take}
+use Rattle.records.specs.Order.{accepted}
+use Rattle.records.specs.Format.{Contents, Bytes, recordLength, placed}
+use Rattle.records.specs.Calls.{readingOf, writingOf}
+
+-- the contents of an accepted record, written into a buffer that has room, are accepted and put the record's bytes there
+abbrev pub ReadThenWritten : Type 0
+ReadThenWritten =
+    (bs old : List ℕ) (k : Contents) → Bytes bs → readingOf bs ≡ accepted k → length bs ≤ length old → writingOf k old ≡ accepted (placed old 0 bs)
+
+-- the first 8 + 5n bytes of a buffer that the writer has filled are an accepted record with the contents written
+abbrev pub WrittenThenRead : Type 0
+WrittenThenRead =
+    (k : Contents) (old new : List ℕ) → writingOf k old ≡ accepted new → readingOf (take (recordLength (length (k .lines))) new) ≡ accepted k

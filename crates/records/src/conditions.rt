@@ -1,0 +1,279 @@
+// The conditions of refusal, each with document 01's number, in the orders of the reader and the writer. 0 stands for none.
+ghost use mathlib.Core.Path.{_≡_};
+ghost use mathlib.Core.Bool.{cond};
+ghost use Prim.Native.Nat.{_+_, _^_, _≤_, _<_};
+ghost use lib.ListN.{length};
+ghost use Rattle.components.specs.Composition.{total, fractionFor};
+ghost use Rattle.records.specs.Order.{firstOf};
+ghost use Rattle.records.specs.Conditions.{permitted, limitOf, countOutside, lineBreaks, fractionZero, sumOutside, aboveLimit, anyAbove};
+ghost use Rattle.records.specs.Conditions.{fieldsOrder, limitsOrder, listsOrder, headOrder, contentOrder, writerOrder};
+use super::format;
+
+const METHANE: u8 = 1;
+
+const ETHANE: u8 = 2;
+
+const WATER: u8 = 42;
+
+const NITROGEN: u8 = 52;
+
+const CARBON_DIOXIDE: u8 = 54;
+
+// The six permitted pairs.
+fn pair_permitted(combustion: u8, metering: u8) -> bool
+    ensures { λ r. ⌜ r ≡ permitted combustion metering ⌝ }
+{
+    ((combustion == 15) & (metering == 15))
+        | ((combustion == 0) & (metering == 0))
+        | ((combustion == 15) & (metering == 0))
+        | ((combustion == 25) & (metering == 0))
+        | ((combustion == 20) & (metering == 20))
+        | ((combustion == 25) & (metering == 20))
+}
+
+// 5: n is 0 or above 55.
+fn count_outside(n: usize) -> bool
+    ensures { λ r. ⌜ r ≡ countOutside n ⌝ }
+{
+    (n == 0) | (55 < n)
+}
+
+// 2 to 6 in their order.
+fn fields_number(mark: bool, version: bool, pair: bool, count: bool, length: bool) -> u8
+    ensures { λ r. ⌜ r ≡ firstOf (fieldsOrder mark version pair count length) ⌝ }
+{
+    if mark {
+        return 2;
+    }
+    if version {
+        return 3;
+    }
+    if pair {
+        return 4;
+    }
+    if count {
+        return 5;
+    }
+    if length {
+        return 6;
+    }
+    0
+}
+
+// 1 to 6.
+pub fn head_refusal(bytes: &[u8]) -> u8
+    ensures { λ r. ⌜ r ≡ firstOf (headOrder (now (bytes .entry))) ⌝ }
+{
+    if bytes.len() < 8 {
+        return 1;
+    }
+    let mark = (bytes[0] != 71) | (bytes[1] != 67) | (bytes[2] != 82);
+    let version = format::number_2(bytes, 3) != 1;
+    let pair = !pair_permitted(bytes[5], bytes[6]);
+    let n = bytes[7] as usize;
+    let count = count_outside(n);
+    let length = bytes.len() != format::record_length(n);
+    fields_number(mark, version, pair, count, length)
+}
+
+// 7: the first line number outside 1 to 55, or not above the one before, ends the scan.
+fn lines_refusal(lines: &[u8]) -> u8
+    ensures { λ r. ⌜ r ≡ cond (lineBreaks 0 (now (lines .entry))) 7 0 ⌝ }
+{
+    let mut before: u8 = 0;
+    let mut k = 0;
+    'scan: loop {
+        if k >= lines.len() {
+            break 'scan 0;
+        }
+        let line = lines[k];
+        if (line <= before) | (55 < line) {
+            break 'scan 7;
+        }
+        before = line;
+        k += 1;
+    }
+}
+
+// 8: the first fraction that is 0 ends the scan.
+fn fractions_refusal(fractions: &[u32]) -> u8
+    ensures { λ r. ⌜ r ≡ cond (fractionZero (now (fractions .entry))) 8 0 ⌝ }
+{
+    let mut k = 0;
+    'scan: loop {
+        if k >= fractions.len() {
+            break 'scan 0;
+        }
+        if fractions[k] == 0 {
+            break 'scan 8;
+        }
+        k += 1;
+    }
+}
+
+fn wide(x: u32) -> u64
+    ensures { λ r. ⌜ (r ≡ x) × (r < 2 ^ 32) ⌝ }
+{
+    x as u64
+}
+
+// The sum of the fractions.
+fn sum(fractions: &[u32]) -> u64
+    requires { ⌜ length (now fractions) ≤ 55 ⌝ }
+    ensures { λ r. ⌜ r ≡ total (now (fractions .entry)) ⌝ }
+{
+    let mut sum: u64 = 0;
+    let mut k = 0;
+    while k < fractions.len() {
+        sum += wide(fractions[k]);
+        k += 1;
+    }
+    sum
+}
+
+// 9: the sum is outside its range.
+fn sum_outside(fractions: &[u32]) -> bool
+    requires { ⌜ length (now fractions) ≤ 55 ⌝ }
+    ensures { λ r. ⌜ r ≡ sumOutside (now (fractions .entry)) ⌝ }
+{
+    let sum = sum(fractions);
+    (sum < 999900) | (1000100 < sum)
+}
+
+// The fraction of a line, 0 where it is absent.
+fn fraction_for(line: u8, lines: &[u8], fractions: &[u32]) -> u32
+    requires { ⌜ length (now lines) ≡ length (now fractions) ⌝ }
+    ensures { λ r. ⌜ r ≡ fractionFor line (now (lines .entry)) (now (fractions .entry)) ⌝ }
+{
+    let mut k = 0;
+    while k < lines.len() {
+        if lines[k] == line {
+            return fractions[k];
+        }
+        k += 1;
+    }
+    0
+}
+
+// The highest fraction of a line other than methane.
+fn limit_of(line: u8) -> u32
+    ensures { λ r. ⌜ r ≡ limitOf line ⌝ }
+{
+    if line == NITROGEN {
+        return 300000;
+    }
+    if (line == ETHANE) | (line == CARBON_DIOXIDE) {
+        return 150000;
+    }
+    if line == WATER {
+        return 200;
+    }
+    50000
+}
+
+// An entry of a line other than methane and water is above its limit.
+fn above_limit(line: u8, fraction: u32) -> bool
+    ensures { λ r. ⌜ r ≡ aboveLimit line fraction ⌝ }
+{
+    (line != METHANE) & (line != WATER) & (limit_of(line) < fraction)
+}
+
+// 11: some entry is.
+fn any_above(lines: &[u8], fractions: &[u32]) -> bool
+    requires { ⌜ length (now lines) ≡ length (now fractions) ⌝ }
+    ensures { λ r. ⌜ r ≡ anyAbove (now (lines .entry)) (now (fractions .entry)) ⌝ }
+{
+    let mut k = 0;
+    while k < lines.len() {
+        if above_limit(lines[k], fractions[k]) {
+            return true;
+        }
+        k += 1;
+    }
+    false
+}
+
+// 9 to 12 in their order.
+fn limits_number(sum: bool, methane: bool, others: bool, water: bool) -> u8
+    ensures { λ r. ⌜ r ≡ firstOf (limitsOrder sum methane others water) ⌝ }
+{
+    if sum {
+        return 9;
+    }
+    if methane {
+        return 10;
+    }
+    if others {
+        return 11;
+    }
+    if water {
+        return 12;
+    }
+    0
+}
+
+// 7 to 12.
+pub fn content_refusal(lines: &[u8], fractions: &[u32]) -> u8
+    requires { ⌜ length (now lines) ≡ length (now fractions) ⌝ }
+    requires { ⌜ length (now fractions) ≤ 55 ⌝ }
+    ensures { λ r. ⌜ r ≡ firstOf (contentOrder (now (lines .entry)) (now (fractions .entry))) ⌝ }
+{
+    let broken = lines_refusal(lines);
+    if broken != 0 {
+        return broken;
+    }
+    let zero = fractions_refusal(fractions);
+    if zero != 0 {
+        return zero;
+    }
+    let sum = sum_outside(fractions);
+    let methane = fraction_for(METHANE, lines, fractions) < 500000;
+    let others = any_above(lines, fractions);
+    let water = limit_of(WATER) < fraction_for(WATER, lines, fractions);
+    limits_number(sum, methane, others, water)
+}
+
+// 19, 4 and 5 in their order.
+fn lists_number(lists: bool, pair: bool, count: bool) -> u8
+    ensures { λ r. ⌜ r ≡ firstOf (listsOrder lists pair count) ⌝ }
+{
+    if lists {
+        return 19;
+    }
+    if pair {
+        return 4;
+    }
+    if count {
+        return 5;
+    }
+    0
+}
+
+// The writer's conditions, for a buffer of room bytes.
+pub fn writer_refusal(
+    combustion: u8,
+    metering: u8,
+    lines: &[u8],
+    fractions: &[u32],
+    room: usize,
+) -> u8
+    ensures { λ r. ⌜ r ≡ firstOf (writerOrder (record { combustion = combustion; metering = metering; lines = now (lines .entry); fractions = now (fractions .entry) }) room) ⌝ }
+{
+    let n = lines.len();
+    let start = lists_number(
+        n != fractions.len(),
+        !pair_permitted(combustion, metering),
+        count_outside(n),
+    );
+    if start != 0 {
+        return start;
+    }
+    let content = content_refusal(lines, fractions);
+    if content != 0 {
+        return content;
+    }
+    if room < format::record_length(n) {
+        return 20;
+    }
+    0
+}

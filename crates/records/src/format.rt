@@ -1,0 +1,104 @@
+// The bytes of a record: its entries read, its head and entries written.
+ghost use mathlib.Core.Path.{_≡_};
+ghost use Prim.Native.Nat.{_+_, _*_, _≤_, _<_};
+ghost use lib.ListN.{length, drop};
+ghost use Rattle.records.specs.Format.{entriesAt, recordLength, number2, number4, linesOf, fractionsOf, headBytes, entryBytes, entriesBytes, placed};
+ghost use Rattle.records.specs.Answers.{padded};
+
+// Where the entries begin.
+pub const ENTRIES_AT: usize = 8;
+
+// The length of a record of n entries.
+pub fn record_length(n: usize) -> usize
+    requires { ⌜ n ≤ 255 ⌝ }
+    ensures { λ r. ⌜ r ≡ recordLength n ⌝ }
+{
+    ENTRIES_AT + 5 * n
+}
+
+fn wide(x: u8) -> u32
+    ensures { λ r. ⌜ (r ≡ x) × (r < 256) ⌝ }
+{
+    x as u32
+}
+
+// The 2-byte number at an offset.
+pub fn number_2(bytes: &[u8], at: usize) -> u32
+    requires { ⌜ at + 2 ≤ length (now bytes) ⌝ }
+    ensures { λ r. ⌜ r ≡ number2 (now (bytes .entry)) at ⌝ }
+{
+    wide(bytes[at]) + 256 * wide(bytes[at + 1])
+}
+
+// The 4-byte number at an offset.
+fn number_4(bytes: &[u8], at: usize) -> u32
+    requires { ⌜ at + 4 ≤ length (now bytes) ⌝ }
+    ensures { λ r. ⌜ r ≡ number4 (now (bytes .entry)) at ⌝ }
+{
+    wide(bytes[at])
+        + 256 * wide(bytes[at + 1])
+        + 65536 * wide(bytes[at + 2])
+        + 16777216 * wide(bytes[at + 3])
+}
+
+// Line numbers and fractions of a record's entries, and 0 past them.
+pub struct Entries {
+    pub lines: [u8; 55],
+    pub fractions: [u32; 55],
+}
+
+// The n entries of a record.
+pub fn read_entries(bytes: &[u8], n: usize) -> Entries
+    requires { ⌜ (n ≤ 55) × (recordLength n ≤ length (now bytes)) ⌝ }
+    ensures { λ r. ⌜ (r .lines ≡ padded (linesOf n (drop entriesAt (now (bytes .entry))))) × (r .fractions ≡ padded (fractionsOf n (drop entriesAt (now (bytes .entry))))) ⌝ }
+{
+    let mut lines = [0u8; 55];
+    let mut fractions = [0u32; 55];
+    let mut k = 0;
+    while k < n {
+        lines[k] = bytes[ENTRIES_AT + 5 * k];
+        fractions[k] = number_4(bytes, ENTRIES_AT + 5 * k + 1);
+        k += 1;
+    }
+    Entries { lines, fractions }
+}
+
+// The bytes of a record before its entries.
+pub fn put_head(out: &mut [u8], combustion: u8, metering: u8, n: u8)
+    requires { ⌜ entriesAt ≤ length (now out) ⌝ }
+    ensures { λ _. ⌜ now (out .exit) ≡ placed (now (out .entry)) 0 (headBytes combustion metering n) ⌝ }
+{
+    out[0] = 71;
+    out[1] = 67;
+    out[2] = 82;
+    out[3] = 1;
+    out[4] = 0;
+    out[5] = combustion;
+    out[6] = metering;
+    out[7] = n;
+}
+
+// The 5 bytes of an entry at an offset.
+fn put_entry(out: &mut [u8], at: usize, line: u8, fraction: u32)
+    requires { ⌜ at + 5 ≤ length (now out) ⌝ }
+    ensures { λ _. ⌜ now (out .exit) ≡ placed (now (out .entry)) at (entryBytes line fraction) ⌝ }
+{
+    out[at] = line;
+    out[at + 1] = (fraction % 256) as u8;
+    out[at + 2] = (fraction / 256 % 256) as u8;
+    out[at + 3] = (fraction / 65536 % 256) as u8;
+    out[at + 4] = (fraction / 16777216 % 256) as u8;
+}
+
+// The entries, where they begin.
+pub fn put_entries(out: &mut [u8], lines: &[u8], fractions: &[u32])
+    requires { ⌜ length (now lines) ≡ length (now fractions) ⌝ }
+    requires { ⌜ recordLength (length (now lines)) ≤ length (now out) ⌝ }
+    ensures { λ _. ⌜ now (out .exit) ≡ placed (now (out .entry)) entriesAt (entriesBytes (now (lines .entry)) (now (fractions .entry))) ⌝ }
+{
+    let mut k = 0;
+    while k < lines.len() {
+        put_entry(out, ENTRIES_AT + 5 * k, lines[k], fractions[k]);
+        k += 1;
+    }
+}

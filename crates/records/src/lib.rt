@@ -1,0 +1,114 @@
+// The analysis record of document 01: read, written, and read and written again. Every list of bytes, and every composition and
+// buffer, gets its answer or the one number of its refusal.
+ghost use mathlib.Core.Path.{_≡_};
+ghost use Rattle.records.specs.Answers.{Reads, Writes, Rewrites, blank};
+
+mod conditions;
+mod format;
+
+// Accepted, or refused with document 01's number.
+pub enum Verdict {
+    Accepted,
+    Refused(u8),
+}
+
+// The pair of temperatures in °C, and count entries: line number, and mole fraction in ppm. Past the entries stands 0.
+pub struct Analysis {
+    pub combustion: u8,
+    pub metering: u8,
+    pub count: usize,
+    pub lines: [u8; 55],
+    pub fractions: [u32; 55],
+}
+
+// Beside a refusal the analysis is 0 everywhere.
+pub struct Reading {
+    pub verdict: Verdict,
+    pub analysis: Analysis,
+}
+
+fn refused(number: u8) -> Reading
+    ensures { λ r. ⌜ (r .verdict ≡ Verdict.Refused number) × (r .analysis ≡ blank) ⌝ }
+{
+    Reading {
+        verdict: Verdict::Refused(number),
+        analysis: Analysis {
+            combustion: 0,
+            metering: 0,
+            count: 0,
+            lines: [0u8; 55],
+            fractions: [0u32; 55],
+        },
+    }
+}
+
+// Reads a record.
+pub fn read(bytes: &[u8]) -> Reading
+    ensures { λ r. ⌜ Reads (now (bytes .entry)) r ⌝ }
+{
+    let head = conditions::head_refusal(bytes);
+    if head != 0 {
+        return refused(head);
+    }
+    let n = bytes[7] as usize;
+    let entries = format::read_entries(bytes, n);
+    let lines = entries.lines;
+    let fractions = entries.fractions;
+    let content = conditions::content_refusal(&lines[..n], &fractions[..n]);
+    if content != 0 {
+        return refused(content);
+    }
+    Reading {
+        verdict: Verdict::Accepted,
+        analysis: Analysis {
+            combustion: bytes[5],
+            metering: bytes[6],
+            count: n,
+            lines,
+            fractions,
+        },
+    }
+}
+
+// Writes a record into the first bytes of a buffer, and touches no other; a refusal leaves the whole buffer as it was.
+pub fn write(
+    combustion: u8,
+    metering: u8,
+    lines: &[u8],
+    fractions: &[u32],
+    out: &mut [u8],
+) -> Verdict
+    ensures { λ r. ⌜ Writes (record { combustion = combustion; metering = metering; lines = now (lines .entry); fractions = now (fractions .entry) }) (now (out .entry)) (now (out .exit)) r ⌝ }
+{
+    let refusal = conditions::writer_refusal(combustion, metering, lines, fractions, out.len());
+    if refusal != 0 {
+        return Verdict::Refused(refusal);
+    }
+    format::put_head(out, combustion, metering, lines.len() as u8);
+    format::put_entries(out, lines, fractions);
+    Verdict::Accepted
+}
+
+// Reads a record and writes it again into a buffer.
+pub fn rewrite(bytes: &[u8], out: &mut [u8]) -> Verdict
+    ensures { λ r. ⌜ Rewrites (now (bytes .entry)) (now (out .entry)) (now (out .exit)) r ⌝ }
+{
+    let reading = read(bytes);
+    let verdict = reading.verdict;
+    let analysis = reading.analysis;
+    match verdict {
+        Verdict::Refused(number) => Verdict::Refused(number),
+        Verdict::Accepted => {
+            let n = analysis.count;
+            let lines = analysis.lines;
+            let fractions = analysis.fractions;
+            write(
+                analysis.combustion,
+                analysis.metering,
+                &lines[..n],
+                &fractions[..n],
+                out,
+            )
+        }
+    }
+}
