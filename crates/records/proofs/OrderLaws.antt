@@ -1,5 +1,5 @@
 -- Laws of orders of refusals: which part of an order decides, what is known where no condition holds, and what a call then gives.
-use mathlib.Core.Path.{_≡_, refl, sym, _∙_}
+use mathlib.Core.Path.{_≡_, refl, sym, ap, _∙_}
 use mathlib.Core.Bool.{Bool, true, false, _||_, cond}
 use mathlib.Core.List.{[], _∷_, _++_}
 use Prim.Native.Nat.{ℕ, zero, suc}
@@ -7,7 +7,7 @@ use native.Mathlib.Omega.{arith}
 use lib.Dec.{T, eqb}
 use Rattle.records.specs.declared.Verdict.{Verdict}
 use Rattle.records.specs.declared.Verdict.the-variants.{Accepted, Refused}
-use Rattle.records.specs.Order.{Order, firstOf, Outcome, refused, accepted, decided, mapped, after}
+use Rattle.records.specs.Order.{Order, firstOf, firstNumber, Outcome, refused, accepted, decided, mapped, after}
 use Rattle.records.specs.Answers.{Gives, meaning}
 
 -- no number of the order is 0
@@ -16,18 +16,27 @@ numbered [] = true
 numbered ((zero, holds) ∷ rest) = false
 numbered ((suc n, holds) ∷ rest) = numbered rest
 
+pub first-number : (n m : ℕ) → (n ≡ 0 → ⊥) → n ≡ firstNumber n m
+first-number zero m h = elim (h refl) [ ]
+first-number (suc n) m h = refl
+
+pub second-number : (n m : ℕ) → n ≡ 0 → m ≡ firstNumber n m
+second-number n m h = rw h
+
+-- the first number of an order is that of its first part or, where no condition of it holds, that of its second
+pub first-append : (a b : Order) → T (numbered a) → firstNumber (firstOf a) (firstOf b) ≡ firstOf (a ++ b)
+first-append [] b t = refl
+first-append ((zero, holds) ∷ rest) b t = elim t [ ]
+first-append ((suc n, true) ∷ rest) b t = refl
+first-append ((suc n, false) ∷ rest) b t = first-append rest b t
+
 -- where a condition of the first part holds, the first part decides
-pub stops : (a b : Order) {r : ℕ} → r ≡ firstOf a → (r ≡ 0 → ⊥) → r ≡ firstOf (a ++ b)
-stops [] b e h = elim (h e) [ ]
-stops ((n, true) ∷ rest) b e h = e
-stops ((n, false) ∷ rest) b e h = stops rest b e h
+pub stops : (a b : Order) {r : ℕ} → T (numbered a) → r ≡ firstOf a → (r ≡ 0 → ⊥) → r ≡ firstOf (a ++ b)
+stops a b {r} t e h = first-number r (firstOf b) h ∙ ap (λ (n : ℕ). firstNumber n (firstOf b)) e ∙ first-append a b t
 
 -- where none does, the second part decides
 pub passes : (a b : Order) {r s : ℕ} → T (numbered a) → r ≡ firstOf a → r ≡ 0 → s ≡ firstOf b → s ≡ firstOf (a ++ b)
-passes [] b t e z h = h
-passes ((zero, holds) ∷ rest) b t e z h = elim t [ ]
-passes ((suc n, true) ∷ rest) b t e z h = let f : ⊥ = omega arith in elim f [ ]
-passes ((suc n, false) ∷ rest) b t e z h = passes rest b t e z h
+passes a b {r} {s} t e z h = h ∙ second-number (firstOf a) (firstOf b) (sym e ∙ z) ∙ first-append a b t
 
 -- where no condition of an order holds, none of either part does
 pub clear-first : (a b : Order) → T (numbered a) → firstOf (a ++ b) ≡ 0 → firstOf a ≡ 0

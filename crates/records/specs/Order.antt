@@ -13,6 +13,11 @@ abbrev pub firstOf : Order → ℕ
 firstOf [] = 0
 firstOf ((n, holds) ∷ rest) = cond holds n (firstOf rest)
 
+-- the first of two numbers that is not 0
+abbrev pub firstNumber : ℕ → ℕ → ℕ
+firstNumber zero m = m
+firstNumber (suc n) m = suc n
+
 -- the numbers of an order
 abbrev pub numbersOf : Order → List ℕ
 numbersOf [] = []

@@ -4,7 +4,7 @@ ghost use mathlib.Core.Bool.{cond};
 ghost use Prim.Native.Nat.{_+_, _^_, _≤_, _<_};
 ghost use lib.ListN.{length};
 ghost use Rattle.components.specs.Composition.{total, fractionFor};
-ghost use Rattle.records.specs.Order.{firstOf};
+ghost use Rattle.records.specs.Order.{firstOf, firstNumber};
 ghost use Rattle.records.specs.Conditions.{permitted, limitOf, countOutside, lineBreaks, fractionZero, sumOutside, aboveLimit, anyAbove};
 ghost use Rattle.records.specs.Conditions.{fieldsOrder, limitsOrder, listsOrder, headOrder, contentOrder, writerOrder};
 use super::format;
@@ -212,19 +212,27 @@ fn limits_number(sum: bool, methane: bool, others: bool, water: bool) -> u8
     0
 }
 
+// 7 before 8.
+fn scan_number(seven: u8, eight: u8) -> u8
+    ensures { λ r. ⌜ r ≡ firstNumber seven eight ⌝ }
+{
+    if seven != 0 {
+        return seven;
+    }
+    eight
+}
+
 // 7 to 12.
 pub fn content_refusal(lines: &[u8], fractions: &[u32]) -> u8
     requires { ⌜ length (now lines) ≡ length (now fractions) ⌝ }
     requires { ⌜ length (now fractions) ≤ 55 ⌝ }
     ensures { λ r. ⌜ r ≡ firstOf (contentOrder (now (lines .entry)) (now (fractions .entry))) ⌝ }
 {
-    let broken = lines_refusal(lines);
-    if broken != 0 {
-        return broken;
-    }
-    let zero = fractions_refusal(fractions);
-    if zero != 0 {
-        return zero;
+    let seven = lines_refusal(lines);
+    let eight = fractions_refusal(fractions);
+    let scan = scan_number(seven, eight);
+    if scan != 0 {
+        return scan;
     }
     let sum = sum_outside(fractions);
     let methane = fraction_for(METHANE, lines, fractions) < 500000;

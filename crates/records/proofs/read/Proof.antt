@@ -46,7 +46,7 @@ returns : tie.Need-returns
 returns c =
     let b = c .before .before in
     let bs = b .before .before .args .bytes .now in
-    reads-refused bs _ _ (stops (headOrder bs) (contentOrder (linesIn bs) (fractionsIn bs)) (b .head-refusal .ensures) (c .before .if1 .taken)) (c .before .if1 .taken)
+    reads-refused bs _ _ (stops (headOrder bs) (contentOrder (linesIn bs) (fractionsIn bs)) tt (b .head-refusal .ensures) (λ z. omega arith)) (λ z. omega arith)
     (c .refused .ensures .0) (c .refused .ensures .1)
 
 shared-slice-read-n : tie.Need-shared-slice-read-n
@@ -81,7 +81,7 @@ refused-requires-2 c κs = tt
 returns-2 : tie.Need-returns-2
 returns-2 c =
     let d = c .before .before in
-    reads-refused (bytes (d .before .before .before .before .before)) _ _ (decides d) (c .before .if2 .taken) (c .refused2 .ensures .0) (c .refused2 .ensures .1)
+    reads-refused (bytes (d .before .before .before .before .before)) _ _ (decides d) (λ z. omega arith) (c .refused2 .ensures .0) (c .refused2 .ensures .1)
 
 shared-slice-read-t10 : tie.Need-shared-slice-read-t10
 shared-slice-read-t10 c = omega (arith, headed (c .before .before .before .before .before .before .before .before .before) .long)

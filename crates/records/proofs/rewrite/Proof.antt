@@ -63,7 +63,7 @@ returns c =
     let r = c .before .before .before .before in
     let a = r .before .before .before .args in
     let d = refused-is (a .bytes .now) _ _ (r .read .ensures) (c .before .verdict .given .1) in
-    gives-refused _ _ (a .out .now) _ (stops (recordOrder (a .bytes .now)) (roomOrder (length (a .out .now)) (countIn (a .bytes .now))) (d .0) (d .1)) (d .1)
+    gives-refused _ _ (a .out .now) _ (stops (recordOrder (a .bytes .now)) (roomOrder (length (a .out .now)) (countIn (a .bytes .now))) tt (d .0) (d .1)) (d .1)
 
 same-length : tie.Need-same-length
 same-length c = search needs

@@ -38,7 +38,7 @@ writer-refusal-requires : tie.Need-writer-refusal-requires
 writer-refusal-requires c κs = tt
 
 returns : tie.Need-returns
-returns c = gives-refused _ _ (old (c .before)) _ (c .before .writer-refusal .ensures) (c .if1 .taken)
+returns c = gives-refused _ _ (old (c .before)) _ (c .before .writer-refusal .ensures) (λ z. omega arith)
 
 cast-put-head : tie.Need-cast-put-head
 cast-put-head c = omega (arith, started (k (c .before .before)) _ (clear (c .before)) .entries .few)
