@@ -6,3 +6,5 @@ mod Scans
 mod Digits
 mod Entries
 pub mod ReadLaws
+mod Cases
+mod Numbers

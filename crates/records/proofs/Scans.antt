@@ -14,7 +14,7 @@ pub drop-step : (l : List ℕ) (k : ℕ) → k < length l → drop k l ≡ getD 
 drop-step l k h = rw add-one (drop-cons l k 0 h)
 
 pub lines-step : (before : ℕ) (ls : List ℕ) (k : ℕ) → k < length ls
-    → lineBreaks before (drop k ls) ≡ (leb (getD ls k 0) before || ltb 55 (getD ls k 0) || lineBreaks (getD ls k 0) (drop (k + 1) ls))
+    → lineBreaks before (drop k ls) ≡ (leb (getD ls k 0) before || (ltb 55 (getD ls k 0) || lineBreaks (getD ls k 0) (drop (k + 1) ls)))
 unfolding lineBreaks
 lines-step before ls k h = rw (drop-step ls k h)
 

@@ -6,7 +6,7 @@ use Prim.Native.Nat.{ℕ}
 use lib.Dec.{eqb, leb, ltb}
 use lib.ListN.{length, getD}
 use Rattle.components.specs.Composition.{total, fractionFor}
-use Rattle.records.specs.Order.{Order, firstOf}
+use Rattle.records.specs.Order.{Order, numbersOf}
 use Rattle.records.specs.Format.{Contents, mark, version, recordLength, number2, combustionIn, meteringIn, countIn, linesIn, fractionsIn}
 
 -- the six permitted pairs, combustion/metering
@@ -66,7 +66,7 @@ lengthDiffers bs = not (eqb (length bs) (recordLength (countIn bs)))
 -- 7: a line number outside 1 to 55, or not above the one before (0 before the first)
 unfoldable pub lineBreaks : ℕ → List ℕ → Bool
 lineBreaks before [] = false
-lineBreaks before (l ∷ ls) = leb l before || ltb 55 l || lineBreaks l ls
+lineBreaks before (l ∷ ls) = leb l before || (ltb 55 l || lineBreaks l ls)
 
 -- 8: a fraction is 0
 unfoldable pub fractionZero : List ℕ → Bool
@@ -138,3 +138,10 @@ roomOrder room n = (20, roomShort room n) ∷ []
 
 abbrev pub writerOrder : Contents → ℕ → Order
 writerOrder k room = startOrder k ++ (contentOrder (k .lines) (k .fractions) ++ roomOrder room (length (k .lines)))
+
+-- a record tries 1 to 12, the writer 19, 4, 5, 7 to 12, 20, whatever the input
+abbrev pub RecordNumbers : Type 0
+RecordNumbers = (bs : List ℕ) → numbersOf (recordOrder bs) ≡ 1 ∷ 2 ∷ 3 ∷ 4 ∷ 5 ∷ 6 ∷ 7 ∷ 8 ∷ 9 ∷ 10 ∷ 11 ∷ 12 ∷ []
+
+abbrev pub WriterNumbers : Type 0
+WriterNumbers = (k : Contents) (room : ℕ) → numbersOf (writerOrder k room) ≡ 19 ∷ 4 ∷ 5 ∷ 7 ∷ 8 ∷ 9 ∷ 10 ∷ 11 ∷ 12 ∷ 20 ∷ []

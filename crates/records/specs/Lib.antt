@@ -4,3 +4,4 @@ pub mod Conditions
 pub mod Calls
 pub mod Answers
 pub mod RoundTrips
+pub mod Cases

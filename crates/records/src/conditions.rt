@@ -87,7 +87,10 @@ fn lines_refusal(lines: &[u8]) -> u8
             break 'scan 0;
         }
         let line = lines[k];
-        if (line <= before) | (55 < line) {
+        if line <= before {
+            break 'scan 7;
+        }
+        if 55 < line {
             break 'scan 7;
         }
         before = line;

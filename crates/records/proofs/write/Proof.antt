@@ -32,7 +32,7 @@ module _ (c : tie.After-writer-refusal) where
 
 -- where nothing refuses it
 clear : (c : tie.Else1) → firstOf (writerOrder (k (c .before)) (length (old (c .before)))) ≡ 0
-clear c = sym (c .before .writer-refusal .ensures) ∙ c .if1 .left
+clear c = omega (arith, c .before .writer-refusal .ensures)
 
 writer-refusal-requires : tie.Need-writer-refusal-requires
 writer-refusal-requires c κs = tt

@@ -2,11 +2,12 @@
 use mathlib.Core.Path.{_∙_}
 use native.Mathlib.Omega.{arith}
 use borrow.Author.Tests.{lt-ltb, le-ltb}
+use lib.ListN.{length}
 use Rattle.records.proofs.conditions.head_refusal.Statement.{statement}
 use Rattle.records.proofs.conditions.head_refusal.Tie as tie
 
 returns : tie.Need-returns
-returns c = rw (lt-ltb _ _ (c .if1 .taken))
+returns c = rw (lt-ltb (length (c .before .before .args .bytes .now)) 8 (omega arith))
 
 shared-slice-read-mark : tie.Need-shared-slice-read-mark
 shared-slice-read-mark c = omega arith
@@ -51,7 +52,7 @@ returns-2 c =
     let p = n .before .before in
     let v = p .before .before .before in
     c .fields-number .ensures
-    ∙ simp (l .record-length .ensures, n .count-outside .ensures, p .pair-permitted .ensures, v .number-2 .ensures, le-ltb _ _ (v .before .before .before .before .if1 .left))
+    ∙ rw (l .record-length .ensures, n .count-outside .ensures, p .pair-permitted .ensures, v .number-2 .ensures, le-ltb _ _ (v .before .before .before .before .if1 .left))
 
 pub head-refusal-spec : {M : Type 1} → statement M
 head-refusal-spec =

@@ -4,16 +4,16 @@ use Rattle.records.proofs.conditions.limit_of.Statement.{statement}
 use Rattle.records.proofs.conditions.limit_of.Tie as tie
 
 returns : tie.Need-returns
-returns c = simp (eq-eqb _ _ (c .if1 .taken))
+returns c = rw (eq-eqb _ _ (c .if1 .taken))
 
 returns-2 : tie.Need-returns-2
-returns-2 c = simp (ne-eqb _ _ (c .before .if1 .left), c .if2 .taken)
+returns-2 c = rw (ne-eqb _ _ (c .before .if1 .left), c .if2 .taken)
 
 returns-3 : tie.Need-returns-3
-returns-3 c = simp (ne-eqb _ _ (c .before .before .if1 .left), c .before .if2 .left, eq-eqb _ _ (c .if3 .taken))
+returns-3 c = rw (ne-eqb _ _ (c .before .before .if1 .left), c .before .if2 .left, eq-eqb _ _ (c .if3 .taken))
 
 returns-4 : tie.Need-returns-4
-returns-4 c = simp (ne-eqb _ _ (c .before .before .if1 .left), c .before .if2 .left, ne-eqb _ _ (c .if3 .left))
+returns-4 c = rw (ne-eqb _ _ (c .before .before .if1 .left), c .before .if2 .left, ne-eqb _ _ (c .if3 .left))
 
 pub limit-of-spec : {M : Type 1} → statement M
 limit-of-spec = tie.close (tie.spec returns returns-2 returns-3 returns-4)

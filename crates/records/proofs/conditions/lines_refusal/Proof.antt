@@ -2,7 +2,8 @@
 use mathlib.Core.Path.{_≡_, refl, _∙_}
 use Prim.Native.Nat.{_-_, _≤_}
 use native.Mathlib.Omega.{arith}
-use lib.ListN.{length, drop, drop-of-length-le}
+use borrow.Author.Tests.{le-leb, lt-leb, le-ltb, lt-ltb}
+use lib.ListN.{length, getD, drop, drop-of-length-le}
 use Rattle.records.specs.Conditions.{lineBreaks}
 use Rattle.records.proofs.Scans.{lines-step}
 use Rattle.records.proofs.conditions.lines_refusal.Statement.{statement}
@@ -28,19 +29,40 @@ scan-less c = omega arith
 
 scan-again : tie.Need-scan-again Inv-scan μ-scan
 scan-again c =
-    let at = c .before .before .before in
-    (omega arith, at .scan .inv .1 ∙ lines-step _ (at .before .args .lines .now) (at .scan .k) (omega arith) ∙ rw (c .if2 .left))
+    let at = c .before .before .before .before in
+    let ls = at .before .args .lines .now in
+    let l = getD ls (at .scan .k) 0 in
+    (omega arith, at .scan .inv .1 ∙ lines-step _ ls (at .scan .k) (omega arith) ∙ rw (lt-leb l (at .scan .before) (omega arith), le-ltb 55 l (omega arith)))
 
 returns : tie.Need-returns Inv-scan μ-scan
 unfolding lineBreaks
-returns c = rw (c .before .scan .inv .1, drop-of-length-le (c .before .before .args .lines .now) (c .if1 .taken))
+returns c = rw (c .before .scan .inv .1, drop-of-length-le (c .before .before .args .lines .now) {i = c .before .scan .k} (omega arith))
 
 returns-2 : tie.Need-returns-2 Inv-scan μ-scan
 returns-2 c =
     let at = c .before .before .before in
-    rw (at .scan .inv .1, lines-step _ (at .before .args .lines .now) (at .scan .k) (omega arith), c .if2 .taken)
+    let ls = at .before .args .lines .now in
+    let l = getD ls (at .scan .k) 0 in
+    rw (at .scan .inv .1, lines-step _ ls (at .scan .k) (omega arith), le-leb l (at .scan .before) (omega arith))
+
+returns-3 : tie.Need-returns-3 Inv-scan μ-scan
+returns-3 c =
+    let at = c .before .before .before .before in
+    let ls = at .before .args .lines .now in
+    let l = getD ls (at .scan .k) 0 in
+    rw (at .scan .inv .1, lines-step _ ls (at .scan .k) (omega arith), lt-leb l (at .scan .before) (omega arith), lt-ltb 55 l (omega arith))
 
 pub lines-refusal-spec : {M : Type 1} → statement M
 lines-refusal-spec =
     tie.close
-    (tie.spec Inv-scan μ-scan scan-holds shared-slice-read-line add-k scan-less scan-again returns returns-2)
+    (tie.spec
+    Inv-scan
+    μ-scan
+    scan-holds
+    shared-slice-read-line
+    add-k
+    scan-less
+    scan-again
+    returns
+    returns-2
+    returns-3)

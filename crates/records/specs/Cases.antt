@@ -1,0 +1,147 @@
+-- The record part of the cases K1 to K8 of document 01, and damaged input, as lists with one test that computes.
+use mathlib.Core.Path.{_≡_}
+use mathlib.Core.Bool.{Bool, true, false, _&&_}
+use mathlib.Core.List.{List, [], _∷_, _++_}
+use Prim.Native.Nat.{ℕ, zero, suc, _+_}
+use lib.Dec.{eqb}
+use lib.ListN.{length, replicate}
+use Rattle.records.specs.Order.{Outcome, refused, accepted, decided}
+use Rattle.records.specs.Format.{Contents, bytesOf}
+use Rattle.records.specs.Calls.{readingOf, writingOf}
+
+unfoldable pub sameList : List ℕ → List ℕ → Bool
+sameList [] [] = true
+sameList [] (y ∷ ys) = false
+sameList (x ∷ xs) [] = false
+sameList (x ∷ xs) (y ∷ ys) = eqb x y && sameList xs ys
+
+abbrev pub sameContents : Contents → Contents → Bool
+sameContents a b =
+    eqb (a .combustion) (b .combustion) && eqb (a .metering) (b .metering) && sameList (a .lines) (b .lines) && sameList (a .fractions) (b .fractions)
+
+-- the same number, or answers that pass a test
+unfoldable pub sameOutcome : {A : Type 0} → (A → A → Bool) → Outcome A → Outcome A → Bool
+sameOutcome same (refused n) (refused m) = eqb n m
+sameOutcome same (refused n) (accepted b) = false
+sameOutcome same (accepted a) (refused m) = false
+sameOutcome same (accepted a) (accepted b) = same a b
+
+-- a record, its contents, and the number that refuses both the record and the writing of it, 0 where both are accepted
+pub record Case : Type 0 where
+  pub contents : Contents
+  pub bytes : List ℕ
+  pub number : ℕ
+
+-- read, the record gives its contents or the number; written into a buffer of just its size, the contents give the record or the number
+abbrev pub caseHolds : Case → Bool
+caseHolds c =
+    sameOutcome sameContents (readingOf (c .bytes)) (decided (c .number) (c .contents))
+    && sameOutcome sameList (writingOf (c .contents) (replicate (length (c .bytes)) 0)) (decided (c .number) (c .bytes))
+
+unfoldable pub allHold : {A : Type 0} → (A → Bool) → List A → Bool
+allHold test [] = true
+allHold test (c ∷ cs) = test c && allHold test cs
+
+abbrev pub gas : ℕ → ℕ → List ℕ → List ℕ → Contents
+gas c m ls xs = record { combustion = c; metering = m; lines = ls; fractions = xs }
+
+abbrev pub given : Contents → ℕ → Case
+given k n = record { contents = k; bytes = bytesOf k; number = n }
+
+abbrev pub cases : List Case
+cases =
+    given (gas 15 15 (1 ∷ 2 ∷ 3 ∷ 4 ∷ 5 ∷ 6 ∷ 52 ∷ 54 ∷ []) (924700 ∷ 35000 ∷ 9800 ∷ 2200 ∷ 3400 ∷ 600 ∷ 17500 ∷ 6800 ∷ [])) 0  -- K1
+    ∷ record {
+      contents = gas 15 15 (1 ∷ []) (1000000 ∷ []);
+      bytes = 0x47 ∷ 0x43 ∷ 0x52 ∷ 0x01 ∷ 0x00 ∷ 0x0F ∷ 0x0F ∷ 0x01 ∷ 0x01 ∷ 0x40 ∷ 0x42 ∷ 0x0F ∷ 0x00 ∷ [];
+      number = 0;
+    }  -- K2
+    ∷ given (gas 15 15 (1 ∷ []) (999900 ∷ [])) 0  -- K3
+    ∷ given (gas 15 15 (1 ∷ []) (1000100 ∷ [])) 0
+    ∷ given (gas 15 15 (1 ∷ []) (999899 ∷ [])) 9
+    ∷ given (gas 15 15 (1 ∷ []) (1000101 ∷ [])) 9
+    ∷ given (gas 15 15 (1 ∷ 52 ∷ []) (700000 ∷ 300000 ∷ [])) 0  -- K4
+    ∷ given (gas 15 15 (1 ∷ 52 ∷ []) (699999 ∷ 300001 ∷ [])) 11
+    ∷ given (gas 15 15 (1 ∷ 2 ∷ 52 ∷ 54 ∷ []) (500000 ∷ 50000 ∷ 300000 ∷ 150000 ∷ [])) 0  -- K5
+    ∷ given (gas 15 15 (1 ∷ 2 ∷ 52 ∷ 54 ∷ []) (499999 ∷ 50001 ∷ 300000 ∷ 150000 ∷ [])) 10
+    ∷ given (gas 15 15 (1 ∷ 42 ∷ []) (999800 ∷ 200 ∷ [])) 0  -- K6
+    ∷ given (gas 15 15 (1 ∷ 42 ∷ []) (999799 ∷ 201 ∷ [])) 12
+    ∷ given (gas 15 15 (1 ∷ 55 ∷ []) (950000 ∷ 50000 ∷ [])) 0  -- K7
+    ∷ given (gas 25 15 (1 ∷ []) (1000000 ∷ [])) 4  -- K8
+    ∷ given (gas 15 15 (1 ∷ 1 ∷ []) (500000 ∷ 500000 ∷ [])) 7
+    ∷ []
+
+-- every line of the table, the gas that fits it, and a fraction for each
+unfoldable pub upFrom : ℕ → ℕ → List ℕ
+upFrom zero from = []
+upFrom (suc n) from = from ∷ upFrom n (from + 1)
+
+abbrev pub allLines : List ℕ
+allLines = upFrom 55 1
+
+abbrev pub fullGas : Contents
+fullGas = gas 25 20 allLines (973300 ∷ replicate 40 500 ++ (200 ∷ replicate 13 500))
+
+-- the bytes of K2 up to the entry count, with another mark, version, or count
+abbrev pub head : List ℕ → ℕ → ℕ → ℕ → List ℕ
+head marks low high n = marks ++ (low ∷ high ∷ 15 ∷ 15 ∷ n ∷ [])
+
+abbrev pub entry : List ℕ
+entry = 1 ∷ 0x40 ∷ 0x42 ∷ 0x0F ∷ 0x00 ∷ []
+
+unfoldable pub refusedBy : {A : Type 0} → ℕ → Outcome A → Bool
+refusedBy n (refused m) = eqb n m
+refusedBy n (accepted a) = false
+
+-- bytes and the number that refuses them
+abbrev pub damaged : List (List ℕ × ℕ)
+damaged =
+    ([], 1)
+    ∷ (71 ∷ 67 ∷ 82 ∷ 1 ∷ 0 ∷ 15 ∷ 15 ∷ [], 1)
+    ∷ (head (71 ∷ 67 ∷ 83 ∷ []) 1 0 1 ++ entry, 2)
+    ∷ (head (103 ∷ 67 ∷ 82 ∷ []) 2 0 1 ++ entry, 2)  -- 2 before 3
+    ∷ (head (71 ∷ 67 ∷ 82 ∷ []) 2 0 1 ++ entry, 3)
+    ∷ (head (71 ∷ 67 ∷ 82 ∷ []) 1 1 1 ++ entry, 3)  -- version 257
+    ∷ (head (71 ∷ 67 ∷ 82 ∷ []) 1 0 0, 5)
+    ∷ (head (71 ∷ 67 ∷ 82 ∷ []) 1 0 56 ++ replicate 280 1, 5)
+    ∷ (head (71 ∷ 67 ∷ 82 ∷ []) 1 0 255, 5)
+    ∷ (head (71 ∷ 67 ∷ 82 ∷ []) 1 0 255 ++ replicate 1275 1, 5)
+    ∷ (head (71 ∷ 67 ∷ 82 ∷ []) 1 0 1, 6)  -- bytes 0 to 7 alone
+    ∷ (head (71 ∷ 67 ∷ 82 ∷ []) 1 0 1 ++ (1 ∷ 0x40 ∷ 0x42 ∷ 0x0F ∷ []), 6)
+    ∷ (head (71 ∷ 67 ∷ 82 ∷ []) 1 0 1 ++ entry ++ (0 ∷ []), 6)  -- a byte after the last entry
+    ∷ (head (71 ∷ 67 ∷ 82 ∷ []) 1 0 1 ++ entry ++ entry, 6)
+    ∷ (bytesOf (gas 15 15 (0 ∷ []) (1000000 ∷ [])), 7)
+    ∷ (bytesOf (gas 15 15 (1 ∷ 56 ∷ []) (999999 ∷ 1 ∷ [])), 7)
+    ∷ (bytesOf (gas 15 15 (1 ∷ 3 ∷ 2 ∷ []) (999998 ∷ 1 ∷ 1 ∷ [])), 7)
+    ∷ (bytesOf (gas 15 15 (1 ∷ 2 ∷ 2 ∷ []) (0 ∷ 999999 ∷ 1 ∷ [])), 7)  -- 7 over all entries before 8
+    ∷ (bytesOf (gas 15 15 (1 ∷ 2 ∷ []) (1000000 ∷ 0 ∷ [])), 8)
+    ∷ (bytesOf (gas 15 15 allLines (replicate 55 4294967295)), 9)
+    ∷ (bytesOf (gas 15 15 (1 ∷ 2 ∷ []) (4294967295 ∷ 1000001 ∷ [])), 9)  -- 2^32 + 1,000,000 in all
+    ∷ (bytesOf (gas 15 15 (2 ∷ []) (1000000 ∷ [])), 10)  -- no methane; 10 before 11
+    ∷ (bytesOf (gas 15 15 (1 ∷ 42 ∷ 55 ∷ []) (949798 ∷ 201 ∷ 50001 ∷ [])), 11)  -- 11 before 12
+    ∷ []
+
+-- contents, the size of a buffer, and the number that refuses the writing
+abbrev pub refusedWrites : List (Contents × (ℕ × ℕ))
+refusedWrites =
+    (gas 15 15 (1 ∷ 2 ∷ []) (1000000 ∷ []), (300, 19))
+    ∷ (gas 1 1 (1 ∷ []) [], (0, 19))  -- 19 before 4
+    ∷ (gas 25 15 [] [], (0, 4))  -- 4 before 5
+    ∷ (gas 15 15 [] [], (300, 5))
+    ∷ (gas 15 15 (upFrom 56 1) (replicate 56 1), (300, 5))
+    ∷ (gas 15 15 (1 ∷ []) (999899 ∷ []), (0, 9))  -- 9 before 20
+    ∷ (gas 15 15 (1 ∷ []) (1000000 ∷ []), (12, 20))  -- a byte short
+    ∷ (gas 15 15 (1 ∷ []) (1000000 ∷ []), (0, 20))
+    ∷ []
+
+abbrev pub CasesHold : Type 0
+CasesHold = allHold caseHolds cases ≡ true
+
+abbrev pub FullGasHolds : Type 0
+FullGasHolds = caseHolds (given fullGas 0) ≡ true
+
+abbrev pub DamagedRefused : Type 0
+DamagedRefused = allHold (λ (c : List ℕ × ℕ). refusedBy (c .1) (readingOf (c .0))) damaged ≡ true
+
+abbrev pub WritesRefused : Type 0
+WritesRefused = allHold (λ (c : Contents × (ℕ × ℕ)). refusedBy (c .1 .1) (writingOf (c .0) (replicate (c .1 .0) 0))) refusedWrites ≡ true
