@@ -14,7 +14,8 @@ use mir.Syntax.{w32}
 use mir.Val.{SFits}
 use Rattle.rounding.proofs.SignedWords.{mag≤}
 use Rattle.components.specs.Table.{componentTable, entryOf, molarMass, summation, Heat, Unsigned}
-use Rattle.components.proofs.Every.{at, every, all, all-at, unless}
+use Rattle.components.specs.Tests.{all}
+use Rattle.components.proofs.Every.{at, every, all-at, unless}
 
 -- a test of a row passes at every row
 row-at : (f : List ℤ → Bool) → T (all f componentTable) → T (f []) → (l : ℕ) → T (f (getD componentTable (l - 1) []))

@@ -7,6 +7,7 @@ use Prim.Native.Nat.{ℕ, zero, suc, _<_}
 use native.Mathlib.Nat.{le-of-suc-le-suc, not-suc-le-zero, eq-or-lt-of-le}
 use lib.Dec.{T}
 use lib.ListN.{getD}
+use Rattle.components.specs.Tests.{all}
 
 and-left : (a b : Bool) → T (a && b) → T a
 and-left true b t = tt
@@ -38,12 +39,7 @@ at f (suc n) t k h =
 pub at₂ : (f : ℕ → ℕ → Bool) (m n : ℕ) → T (every (λ (l : ℕ). every (f l) n) m) → (l c : ℕ) → l < m → c < n → T (f l c)
 at₂ f m n t l c hl hc = at (f l) n (at (λ (l : ℕ). every (f l) n) m t l hl) c hc
 
--- the test passes at each element
-abbrev pub all : {A : Type 0} → (A → Bool) → List A → Bool
-all f [] = true
-all f (x ∷ xs) = f x && all f xs
-
--- at every index, where it passes at what stands past the end
+-- a test that passes at each element of a list passes at every index, where it passes at what stands past the end
 pub all-at : {A : Type 0} (f : A → Bool) (xs : List A) (d : A) → T (all f xs) → T (f d) → (k : ℕ) → T (f (getD xs k d))
 all-at f [] d t e k = e
 all-at f (x ∷ xs) d t e zero = and-left (f x) (all f xs) t

@@ -1,3 +1,4 @@
+pub mod Tests
 pub mod Table
 pub mod Rule
 pub mod Composition

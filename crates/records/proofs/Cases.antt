@@ -3,10 +3,10 @@ use mathlib.Core.Path.{refl}
 use Rattle.components.specs.Composition.{total, fractionFor}
 use Rattle.records.specs.Format.{linesOf, fractionsOf, entriesBytes}
 use Rattle.records.specs.Conditions.{lineBreaks, fractionZero, anyAbove}
-use Rattle.records.specs.Cases.{sameList, sameOutcome, allHold, upFrom, refusedBy, CasesHold, FullGasHolds, DamagedRefused, WritesRefused}
+use Rattle.records.specs.Cases.{sameList, sameOutcome, upFrom, CasesHold, FullGasHolds, DamagedRefused, WritesRefused, BuffersHold, DamagedNotRewritten}
 
 pub cases-hold : CasesHold
-unfolding sameList sameOutcome allHold linesOf fractionsOf entriesBytes lineBreaks fractionZero anyAbove total fractionFor
+unfolding sameList sameOutcome linesOf fractionsOf entriesBytes lineBreaks fractionZero anyAbove total fractionFor
 cases-hold = refl
 
 pub full-gas-holds : FullGasHolds
@@ -14,9 +14,17 @@ unfolding sameList sameOutcome upFrom linesOf fractionsOf entriesBytes lineBreak
 full-gas-holds = refl
 
 pub damaged-refused : DamagedRefused
-unfolding refusedBy allHold upFrom linesOf fractionsOf entriesBytes lineBreaks fractionZero anyAbove total fractionFor
+unfolding sameOutcome upFrom linesOf fractionsOf entriesBytes lineBreaks fractionZero anyAbove total fractionFor
 damaged-refused = refl
 
 pub writes-refused : WritesRefused
-unfolding refusedBy allHold upFrom linesOf fractionsOf entriesBytes lineBreaks fractionZero anyAbove total fractionFor
+unfolding sameOutcome upFrom linesOf fractionsOf entriesBytes lineBreaks fractionZero anyAbove total fractionFor
 writes-refused = refl
+
+pub buffers-hold : BuffersHold
+unfolding sameList sameOutcome linesOf fractionsOf entriesBytes lineBreaks fractionZero anyAbove total fractionFor
+buffers-hold = refl
+
+pub damaged-not-rewritten : DamagedNotRewritten
+unfolding sameOutcome upFrom linesOf fractionsOf entriesBytes lineBreaks fractionZero anyAbove total fractionFor
+damaged-not-rewritten = refl

@@ -1,7 +1,7 @@
 -- What is known of a record, and of contents to be written, where the first conditions of their orders do not hold.
-use mathlib.Core.Path.{_≡_, sym, _∙_}
-use mathlib.Core.Bool.{Bool, true, false, not}
-use mathlib.Core.List.{List, _++_}
+use mathlib.Core.Path.{_≡_}
+use mathlib.Core.Bool.{true, false}
+use mathlib.Core.List.{List}
 use Prim.Native.Nat.{ℕ, _≤_}
 use borrow.Author.Tests.{ltb-false, not-false, eqb-true, eqb-false}
 use lib.ListN.{length}

@@ -6,9 +6,9 @@ use Prim.Native.Nat.{ℕ, zero, suc}
 use native.Mathlib.Omega.{arith}
 use lib.Dec.{T, eqb}
 use Rattle.records.specs.declared.Verdict.{Verdict}
-use Rattle.records.specs.declared.Verdict.the-variants.{Accepted, Refused}
-use Rattle.records.specs.Order.{Order, firstOf, firstNumber, Outcome, refused, accepted, decided, mapped, after}
-use Rattle.records.specs.Answers.{Gives, meaning}
+use Rattle.records.specs.declared.Verdict.the-variants.{Refused}
+use Rattle.records.specs.Order.{Order, firstOf, refused, accepted, decided, otherwise, mapped}
+use Rattle.records.specs.Answers.{Gives, verdictOf}
 
 -- no number of the order is 0
 abbrev pub numbered : Order → Bool
@@ -16,27 +16,18 @@ numbered [] = true
 numbered ((zero, holds) ∷ rest) = false
 numbered ((suc n, holds) ∷ rest) = numbered rest
 
-pub first-number : (n m : ℕ) → (n ≡ 0 → ⊥) → n ≡ firstNumber n m
-first-number zero m h = elim (h refl) [ ]
-first-number (suc n) m h = refl
-
-pub second-number : (n m : ℕ) → n ≡ 0 → m ≡ firstNumber n m
-second-number n m h = rw h
-
--- the first number of an order is that of its first part or, where no condition of it holds, that of its second
-pub first-append : (a b : Order) → T (numbered a) → firstNumber (firstOf a) (firstOf b) ≡ firstOf (a ++ b)
-first-append [] b t = refl
-first-append ((zero, holds) ∷ rest) b t = elim t [ ]
-first-append ((suc n, true) ∷ rest) b t = refl
-first-append ((suc n, false) ∷ rest) b t = first-append rest b t
-
 -- where a condition of the first part holds, the first part decides
-pub stops : (a b : Order) {r : ℕ} → T (numbered a) → r ≡ firstOf a → (r ≡ 0 → ⊥) → r ≡ firstOf (a ++ b)
-stops a b {r} t e h = first-number r (firstOf b) h ∙ ap (λ (n : ℕ). firstNumber n (firstOf b)) e ∙ first-append a b t
+pub stops : (a b : Order) {r : ℕ} → r ≡ firstOf a → (r ≡ 0 → ⊥) → r ≡ firstOf (a ++ b)
+stops [] b e h = elim (h e) [ ]
+stops ((n, true) ∷ rest) b e h = e
+stops ((n, false) ∷ rest) b e h = stops rest b e h
 
 -- where none does, the second part decides
 pub passes : (a b : Order) {r s : ℕ} → T (numbered a) → r ≡ firstOf a → r ≡ 0 → s ≡ firstOf b → s ≡ firstOf (a ++ b)
-passes a b {r} {s} t e z h = h ∙ second-number (firstOf a) (firstOf b) (sym e ∙ z) ∙ first-append a b t
+passes [] b t e z h = h
+passes ((zero, holds) ∷ rest) b t e z h = elim t [ ]
+passes ((suc n, true) ∷ rest) b t e z h = let f : ⊥ = omega arith in elim f [ ]
+passes ((suc n, false) ∷ rest) b t e z h = passes rest b t e z h
 
 -- where no condition of an order holds, none of either part does
 pub clear-first : (a b : Order) → T (numbered a) → firstOf (a ++ b) ≡ 0 → firstOf a ≡ 0
@@ -68,14 +59,20 @@ pub neither : (a b : Bool) → (a || b) ≡ false → (a ≡ false) × (b ≡ fa
 neither true b h = (h, cc)
 neither false b h = (refl, h)
 
-module _ {A : Type 0} where
-  -- a call that is refused, and one that is accepted
-  pub gives-refused : (n : ℕ) (answer before : A) (number : ℕ) → number ≡ n → (number ≡ 0 → ⊥) → Gives (decided n answer) before (Refused number) before
-  gives-refused zero answer before number e h = elim (h e) [ ]
-  gives-refused (suc n) answer before number e h = record { means = rw e; leaves = refl }
+pub verdict-refused : (number : ℕ) → (number ≡ 0 → ⊥) → Refused number ≡ verdictOf number
+verdict-refused zero h = elim (h refl) [ ]
+verdict-refused (suc n) h = refl
 
-  pub gives-accepted : (n : ℕ) (answer before value : A) → n ≡ 0 → value ≡ answer → Gives (decided n answer) before Accepted value
-  gives-accepted n answer before value e h = rw e (record { means = rw h; leaves = h })
+module _ {A : Type 0} where
+  -- a verdict and a value that come from one number
+  pub gives : (n : ℕ) (answer other value : A) (v : Verdict) → v ≡ verdictOf n → value ≡ otherwise other (decided n answer) → Gives (decided n answer) other v value
+  gives zero answer other value v e h = rw e (record { means = rw h; stands = h })
+  gives (suc n) answer other value v e h = rw e (record { means = refl; stands = h })
+
+  -- beside a refusal
+  pub beside : (n : ℕ) (answer other : A) → (n ≡ 0 → ⊥) → other ≡ otherwise other (decided n answer)
+  beside zero answer other h = elim (h refl) [ ]
+  beside (suc n) answer other h = refl
 
   -- what an outcome says of the number
   pub decided-accepted : (n : ℕ) (answer value : A) → decided n answer ≡ accepted value → (n ≡ 0) × (answer ≡ value)

@@ -3,8 +3,7 @@ use mathlib.Core.Path.{_≡_, sym, ap, _∙_}
 use mathlib.Core.List.{List, [], _++_, append-assoc, append-nil}
 use Prim.Native.Nat.{ℕ, _+_, _≤_}
 use native.Mathlib.Nat.{add-assoc, add-zero}
-use native.Mathlib.Omega.{arith}
-use lib.ListN.{length, take, drop, length-append, length-drop, take-append-drop}
+use lib.ListN.{length, take, drop, length-append, take-append-drop}
 use lib.Seq.{take-at, drop-append-add, drop-drop, length-take-le}
 use Rattle.records.specs.Format.{placed}
 
@@ -21,6 +20,3 @@ placed-after old bs es at next h e =
     let d : drop (next + length es) (p ++ rest) ≡ drop (at + length (bs ++ es)) old =
     ap (λ (k : ℕ). drop (k + length es) (p ++ rest)) (sym hp) ∙ drop-append-add p rest (length es) ∙ drop-drop (length es) (at + length bs) old ∙ ap (λ (k : ℕ). drop k old) i in
     rw (take-at p rest next hp, d, append-assoc (take at old) bs es)
-
-pub length-placed : (old bs : List ℕ) (at : ℕ) → at + length bs ≤ length old → length (placed old at bs) ≡ length old
-length-placed old bs at h = simp (length-append, length-drop, length-take-le at old (omega arith)) (omega arith)

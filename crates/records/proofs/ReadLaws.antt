@@ -1,6 +1,6 @@
 -- The reader's answer, and the arrays that it holds.
 use mathlib.Core.Path.{_≡_, refl, sym, ap, subst, _∙_}
-use mathlib.Core.List.{List, _++_}
+use mathlib.Core.List.{List}
 use Prim.Native.Nat.{ℕ, _≤_}
 use native.Mathlib.Omega.{arith}
 use lib.ListN.{length, take, drop, length-append}
@@ -10,11 +10,11 @@ use Rattle.records.specs.declared.Verdict.the-variants.{Accepted, Refuse
 use Rattle.records.specs.declared.Analysis.{Analysis}
 use Rattle.records.specs.declared.Reading.{Reading}
 use Rattle.records.specs.Order.{Outcome, firstOf}
-use Rattle.records.specs.Format.{Contents, Bytes, entriesAt, combustionIn, meteringIn, countIn, linesIn, fractionsIn, contentsIn}
-use Rattle.records.specs.Conditions.{headOrder, contentOrder, recordOrder}
+use Rattle.records.specs.Format.{Contents, Bytes, entriesAt, combustionIn, meteringIn, countIn, linesIn, fractionsIn, contentsIn, placed}
+use Rattle.records.specs.Conditions.{recordOrder, roomOrder}
 use Rattle.records.specs.Calls.{writingOf}
 use Rattle.records.specs.Answers.{Gives, Reads, Writes, Rewrites, padded, held, blank}
-use Rattle.records.proofs.OrderLaws.{gives-refused, gives-accepted, decided-accepted, decided-refused, mapped-decided}
+use Rattle.records.proofs.OrderLaws.{stops, gives, verdict-refused, beside, decided-accepted, decided-refused, mapped-decided}
 use Rattle.records.proofs.Entries.{length-lines, length-fractions}
 use Rattle.records.proofs.RoundTrips.{rewriting-is}
 
@@ -44,14 +44,14 @@ module _ (bs lines fractions : List ℕ) (hl : lines ≡ padded (linesIn bs)) (h
         analysis = record { combustion = combustionIn bs; metering = meteringIn bs; count = countIn bs; lines = lines; fractions = fractions };
       })
   reads-accepted e =
-      rw (mapped-decided held (firstOf (recordOrder bs)) (contentsIn bs))
-      (gives-accepted (firstOf (recordOrder bs)) (held (contentsIn bs)) blank _ e (rw (hl, hx, length-lines (countIn bs) (drop entriesAt bs))))
+      rw (mapped-decided held (firstOf (recordOrder bs)) (contentsIn bs), e)
+      (gives 0 (held (contentsIn bs)) blank _ Accepted refl (rw (hl, hx, length-lines (countIn bs) (drop entriesAt bs))))
 
 pub reads-refused : (bs : List ℕ) (r : Reading) (number : ℕ) → number ≡ firstOf (recordOrder bs) → (number ≡ 0 → ⊥)
     → r .verdict ≡ Refused number → r .analysis ≡ blank → Reads bs r
 reads-refused bs r number e h v a =
-    rw (mapped-decided held (firstOf (recordOrder bs)) (contentsIn bs), v, a)
-    (gives-refused (firstOf (recordOrder bs)) (held (contentsIn bs)) blank number e h)
+    rw (mapped-decided held (firstOf (recordOrder bs)) (contentsIn bs), ← e)
+    (gives number (held (contentsIn bs)) blank (r .analysis) (r .verdict) (v ∙ verdict-refused number h) (a ∙ beside number (held (contentsIn bs)) blank h))
 
 -- what a reading says of the record
 pub accepted-is : (bs : List ℕ) (r : Reading) → Reads bs r → r .verdict ≡ Accepted → (firstOf (recordOrder bs) ≡ 0) × (r .analysis ≡ held (contentsIn bs))
@@ -64,6 +64,12 @@ pub refused-is : (bs : List ℕ) (r : Reading) (number : ℕ) → Reads bs r →
 refused-is bs r number h v =
     decided-refused (firstOf (recordOrder bs)) (held (contentsIn bs)) number
     (sym (mapped-decided held (firstOf (recordOrder bs)) (contentsIn bs)) ∙ sym (rw v at (h .means)))
+
+-- a refused record is not written
+pub rewrites-refused : (bs old : List ℕ) (number : ℕ) → number ≡ firstOf (recordOrder bs) → (number ≡ 0 → ⊥) → Rewrites bs old old (Refused number)
+rewrites-refused bs old number e h =
+    rw (← stops (recordOrder bs) (roomOrder (length old) (countIn bs)) e h)
+    (gives number (placed old 0 bs) old old (Refused number) (verdict-refused number h) (beside number (placed old 0 bs) old h))
 
 -- the contents that an analysis holds
 abbrev pub contentsOf : Analysis → Contents

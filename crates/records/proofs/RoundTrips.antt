@@ -1,17 +1,16 @@
 -- The round trips hold.
 use mathlib.Core.Path.{_≡_, refl, sym, ap, _∙_}
-use mathlib.Core.Bool.{false, not}
 use mathlib.Core.List.{List, [], _∷_, _++_}
 use Prim.Native.Nat.{ℕ, zero, suc, _+_, _*_, _^_, _≤_, _<_}
 use native.Mathlib.Omega.{arith}
 use borrow.Author.Tests.{le-ltb, eq-eqb, ne-eqb, ltb-false, not-false, eqb-true}
 use lib.Dec.{ltb}
-use lib.ListN.{length, getD, take, drop, take-append-drop, length-append, length-drop}
+use lib.ListN.{length, getD, take, drop, take-append-drop, length-drop}
 use lib.Seq.{take-suc, take-at, getD-drop}
 use Rattle.components.specs.Composition.{total}
 use Rattle.records.specs.Order.{Order, firstOf, accepted, decided}
-use Rattle.records.specs.Format.{Contents, Bytes, mark, entriesAt, recordLength, number4, combustionIn, meteringIn, countIn, linesOf, fractionsOf, linesIn, fractionsIn, contentsIn, headBytes, entryBytes, entriesBytes, bytesOf, placed}
-use Rattle.records.specs.Conditions.{headOrder, contentOrder, recordOrder, startOrder, roomOrder, writerOrder, sumOutside}
+use Rattle.records.specs.Format.{Contents, Bytes, Room, mark, entriesAt, recordLength, number4, combustionIn, meteringIn, countIn, linesOf, fractionsOf, linesIn, fractionsIn, contentsIn, headBytes, entryBytes, entriesBytes, bytesOf, placed}
+use Rattle.records.specs.Conditions.{headOrder, contentOrder, recordOrder, startOrder, roomOrder, writerOrder}
 use Rattle.records.specs.Calls.{readingOf, writingOf, rewritingOf}
 use Rattle.records.specs.RoundTrips.{ReadThenWritten, WrittenThenRead}
 use Rattle.records.proofs.OrderLaws.{passes, clear-first, clear-second, unmet, neither, decided-accepted}
@@ -126,11 +125,11 @@ module _ (k : Contents) (room : ℕ) (h : firstOf (writerOrder k room) ≡ 0) wh
   abbrev content : Order
   content = contentOrder (k .lines) (k .fractions)
 
-  pub started : Start k
+  started : Start k
   started = start k (clear-first (startOrder k) (content ++ last) tt h)
 
-  pub fits : recordLength (length (k .lines)) ≤ room
-  fits = ltb-false _ _ (unmet (writerOrder k room) tt h 20)
+  pub accepted-room : Room (length (k .lines)) (length (k .fractions)) room
+  accepted-room = record { same = started .same; few = started .entries .few; fits = ltb-false _ _ (unmet (writerOrder k room) tt h 20) }
 
   content-clear : firstOf content ≡ 0
   content-clear = clear-first content last tt (clear-second (startOrder k) (content ++ last) tt h)

@@ -7,7 +7,7 @@ use native.Mathlib.Numerals.{add-one}
 use lib.Dec.{eqb, leb, ltb}
 use lib.ListN.{length, getD, drop}
 use lib.Seq.{drop-cons}
-use Rattle.components.specs.Composition.{total, fractionFor}
+use Rattle.components.specs.Composition.{fractionFor}
 use Rattle.records.specs.Conditions.{lineBreaks, fractionZero, aboveLimit, anyAbove}
 
 pub drop-step : (l : List ℕ) (k : ℕ) → k < length l → drop k l ≡ getD l k 0 ∷ drop (k + 1) l
@@ -21,10 +21,6 @@ lines-step before ls k h = rw (drop-step ls k h)
 pub zero-step : (xs : List ℕ) (k : ℕ) → k < length xs → fractionZero (drop k xs) ≡ (eqb (getD xs k 0) 0 || fractionZero (drop (k + 1) xs))
 unfolding fractionZero
 zero-step xs k h = rw (drop-step xs k h)
-
-pub total-step : (xs : List ℕ) (k : ℕ) → k < length xs → total (drop k xs) ≡ getD xs k 0 + total (drop (k + 1) xs)
-unfolding total
-total-step xs k h = rw (drop-step xs k h)
 
 module _ (ls xs : List ℕ) (k : ℕ) (hl : k < length ls) (hx : k < length xs) where
   pub fraction-step : (line : ℕ)

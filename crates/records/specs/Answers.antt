@@ -1,13 +1,13 @@
 -- The answers of the calls on a record: document 01's number and values for each case, and what each call gives.
 use mathlib.Core.Path.{_≡_}
 use mathlib.Core.List.{List, _++_}
-use Prim.Native.Nat.{ℕ}
+use Prim.Native.Nat.{ℕ, zero, suc}
 use lib.ListN.{length, drop, replicate}
 use Rattle.records.specs.declared.Verdict.{Verdict}
 use Rattle.records.specs.declared.Verdict.the-variants.{Accepted, Refused}
 use Rattle.records.specs.declared.Analysis.{Analysis}
 use Rattle.records.specs.declared.Reading.{Reading}
-use Rattle.records.specs.Order.{Outcome, refused, accepted, after, mapped}
+use Rattle.records.specs.Order.{Outcome, refused, accepted, otherwise, mapped}
 use Rattle.records.specs.Format.{Contents}
 use Rattle.records.specs.Calls.{readingOf, writingOf, rewritingOf}
 
@@ -17,12 +17,18 @@ module _ {A : Type 0} where
   meaning Accepted value = accepted value
   meaning (Refused n) value = refused n
 
-  -- A verdict and a value give an outcome: they mean it, and where it is a refusal the value is what was there before.
-  pub record Gives (outcome : Outcome A) (before : A) (verdict : Verdict) (value : A) : Type 0 where
+  -- A verdict and a value give an outcome: they mean it, and beside a refusal stands another value, which is named: the bytes
+  -- that a lent buffer had before, or a reading of 0 everywhere.
+  pub record Gives (outcome : Outcome A) (other : A) (verdict : Verdict) (value : A) : Type 0 where
     pub means : meaning verdict value ≡ outcome
-    pub leaves : value ≡ after before outcome
+    pub stands : value ≡ otherwise other outcome
 
--- the first elements of an array of 55, and 0 past them
+-- the verdict of a number: accepted where it is 0
+abbrev pub verdictOf : ℕ → Verdict
+verdictOf zero = Accepted
+verdictOf (suc n) = Refused (suc n)
+
+-- an array of 55 that begins with a list, and holds 0 past it
 abbrev pub padded : List ℕ → List ℕ
 padded l = l ++ drop (length l) (replicate 55 0)
 

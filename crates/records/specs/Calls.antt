@@ -1,10 +1,10 @@
 -- What the calls on a record give, for every input: the number of the first condition that holds, or the answer.
-use mathlib.Core.List.{List, _++_}
+use mathlib.Core.List.{List}
 use Prim.Native.Nat.{ℕ}
 use lib.ListN.{length}
 use Rattle.records.specs.Order.{Outcome, firstOf, decided}
-use Rattle.records.specs.Format.{Contents, countIn, contentsIn, bytesOf, placed}
-use Rattle.records.specs.Conditions.{recordOrder, roomOrder, writerOrder}
+use Rattle.records.specs.Format.{Contents, contentsIn, bytesOf, placed}
+use Rattle.records.specs.Conditions.{recordOrder, writerOrder, rewriteOrder}
 
 -- reading a list of bytes: the contents of the record
 abbrev pub readingOf : List ℕ → Outcome Contents
@@ -16,4 +16,4 @@ writingOf k old = decided (firstOf (writerOrder k (length old))) (placed old 0 (
 
 -- reading a list of bytes and writing the record again: the reader's conditions, then 20; the buffer gets the record's own bytes
 abbrev pub rewritingOf : List ℕ → List ℕ → Outcome (List ℕ)
-rewritingOf bs old = decided (firstOf (recordOrder bs ++ roomOrder (length old) (countIn bs))) (placed old 0 bs)
+rewritingOf bs old = decided (firstOf (rewriteOrder bs (length old))) (placed old 0 bs)

@@ -4,17 +4,20 @@ use mathlib.Core.Bool.{Bool, true, false, _&&_}
 use mathlib.Core.List.{List, [], _∷_, _++_}
 use Prim.Native.Nat.{ℕ, zero, suc, _+_}
 use lib.Dec.{eqb}
-use lib.ListN.{length, replicate}
+use lib.ListN.{length, take, replicate}
+use Rattle.components.specs.Tests.{all}
 use Rattle.records.specs.Order.{Outcome, refused, accepted, decided}
-use Rattle.records.specs.Format.{Contents, bytesOf}
-use Rattle.records.specs.Calls.{readingOf, writingOf}
+use Rattle.records.specs.Format.{Contents, mark, bytesOf}
+use Rattle.records.specs.Calls.{readingOf, writingOf, rewritingOf}
 
+-- two lists are the same
 unfoldable pub sameList : List ℕ → List ℕ → Bool
 sameList [] [] = true
 sameList [] (y ∷ ys) = false
 sameList (x ∷ xs) [] = false
 sameList (x ∷ xs) (y ∷ ys) = eqb x y && sameList xs ys
 
+-- the same pair, line numbers and fractions
 abbrev pub sameContents : Contents → Contents → Bool
 sameContents a b =
     eqb (a .combustion) (b .combustion) && eqb (a .metering) (b .metering) && sameList (a .lines) (b .lines) && sameList (a .fractions) (b .fractions)
@@ -37,10 +40,6 @@ abbrev pub caseHolds : Case → Bool
 caseHolds c =
     sameOutcome sameContents (readingOf (c .bytes)) (decided (c .number) (c .contents))
     && sameOutcome sameList (writingOf (c .contents) (replicate (length (c .bytes)) 0)) (decided (c .number) (c .bytes))
-
-unfoldable pub allHold : {A : Type 0} → (A → Bool) → List A → Bool
-allHold test [] = true
-allHold test (c ∷ cs) = test c && allHold test cs
 
 abbrev pub gas : ℕ → ℕ → List ℕ → List ℕ → Contents
 gas c m ls xs = record { combustion = c; metering = m; lines = ls; fractions = xs }
@@ -71,52 +70,59 @@ cases =
     ∷ given (gas 15 15 (1 ∷ 1 ∷ []) (500000 ∷ 500000 ∷ [])) 7
     ∷ []
 
--- every line of the table, the gas that fits it, and a fraction for each
+-- n numbers upward from one
 unfoldable pub upFrom : ℕ → ℕ → List ℕ
 upFrom zero from = []
 upFrom (suc n) from = from ∷ upFrom n (from + 1)
 
+-- each of the 55 lines
 abbrev pub allLines : List ℕ
 allLines = upFrom 55 1
 
+-- a gas with each of them, 1,000,000 in all
 abbrev pub fullGas : Contents
 fullGas = gas 25 20 allLines (973300 ∷ replicate 40 500 ++ (200 ∷ replicate 13 500))
 
--- the bytes of K2 up to the entry count, with another mark, version, or count
+-- the first 8 bytes of a record at 15/15: mark, low and high byte of the version, count
 abbrev pub head : List ℕ → ℕ → ℕ → ℕ → List ℕ
 head marks low high n = marks ++ (low ∷ high ∷ 15 ∷ 15 ∷ n ∷ [])
 
+-- an entry: methane 1,000,000
 abbrev pub entry : List ℕ
 entry = 1 ∷ 0x40 ∷ 0x42 ∷ 0x0F ∷ 0x00 ∷ []
 
-unfoldable pub refusedBy : {A : Type 0} → ℕ → Outcome A → Bool
-refusedBy n (refused m) = eqb n m
-refusedBy n (accepted a) = false
+-- the record of K2
+abbrev pub k2 : List ℕ
+k2 = head mark 1 0 1 ++ entry
 
 -- bytes and the number that refuses them
 abbrev pub damaged : List (List ℕ × ℕ)
 damaged =
     ([], 1)
-    ∷ (71 ∷ 67 ∷ 82 ∷ 1 ∷ 0 ∷ 15 ∷ 15 ∷ [], 1)
+    ∷ (take 7 k2, 1)
     ∷ (head (71 ∷ 67 ∷ 83 ∷ []) 1 0 1 ++ entry, 2)
     ∷ (head (103 ∷ 67 ∷ 82 ∷ []) 2 0 1 ++ entry, 2)  -- 2 before 3
-    ∷ (head (71 ∷ 67 ∷ 82 ∷ []) 2 0 1 ++ entry, 3)
-    ∷ (head (71 ∷ 67 ∷ 82 ∷ []) 1 1 1 ++ entry, 3)  -- version 257
-    ∷ (head (71 ∷ 67 ∷ 82 ∷ []) 1 0 0, 5)
-    ∷ (head (71 ∷ 67 ∷ 82 ∷ []) 1 0 56 ++ replicate 280 1, 5)
-    ∷ (head (71 ∷ 67 ∷ 82 ∷ []) 1 0 255, 5)
-    ∷ (head (71 ∷ 67 ∷ 82 ∷ []) 1 0 255 ++ replicate 1275 1, 5)
-    ∷ (head (71 ∷ 67 ∷ 82 ∷ []) 1 0 1, 6)  -- bytes 0 to 7 alone
-    ∷ (head (71 ∷ 67 ∷ 82 ∷ []) 1 0 1 ++ (1 ∷ 0x40 ∷ 0x42 ∷ 0x0F ∷ []), 6)
-    ∷ (head (71 ∷ 67 ∷ 82 ∷ []) 1 0 1 ++ entry ++ (0 ∷ []), 6)  -- a byte after the last entry
-    ∷ (head (71 ∷ 67 ∷ 82 ∷ []) 1 0 1 ++ entry ++ entry, 6)
+    ∷ (head mark 2 0 1 ++ entry, 3)
+    ∷ (head mark 1 1 1 ++ entry, 3)  -- version 257
+    ∷ (mark ++ (2 ∷ 0 ∷ 25 ∷ 15 ∷ 1 ∷ []) ++ entry, 3)  -- 3 before 4
+    ∷ (mark ++ (1 ∷ 0 ∷ 25 ∷ 15 ∷ 0 ∷ []), 4)  -- 4 before 5
+    ∷ (head mark 1 0 0, 5)
+    ∷ (head mark 1 0 56 ++ replicate 280 1, 5)
+    ∷ (head mark 1 0 255, 5)  -- 255 entries claimed
+    ∷ (head mark 1 0 255 ++ replicate 1275 1, 5)
+    ∷ (take 8 k2, 6)  -- bytes 0 to 7 alone
+    ∷ (take 12 k2, 6)
+    ∷ (k2 ++ (0 ∷ []), 6)  -- a byte after the last entry
+    ∷ (k2 ++ entry, 6)
     ∷ (bytesOf (gas 15 15 (0 ∷ []) (1000000 ∷ [])), 7)
     ∷ (bytesOf (gas 15 15 (1 ∷ 56 ∷ []) (999999 ∷ 1 ∷ [])), 7)
     ∷ (bytesOf (gas 15 15 (1 ∷ 3 ∷ 2 ∷ []) (999998 ∷ 1 ∷ 1 ∷ [])), 7)
     ∷ (bytesOf (gas 15 15 (1 ∷ 2 ∷ 2 ∷ []) (0 ∷ 999999 ∷ 1 ∷ [])), 7)  -- 7 over all entries before 8
     ∷ (bytesOf (gas 15 15 (1 ∷ 2 ∷ []) (1000000 ∷ 0 ∷ [])), 8)
+    ∷ (bytesOf (gas 15 15 (1 ∷ 2 ∷ []) (1 ∷ 0 ∷ [])), 8)  -- 8 before 9
     ∷ (bytesOf (gas 15 15 allLines (replicate 55 4294967295)), 9)
     ∷ (bytesOf (gas 15 15 (1 ∷ 2 ∷ []) (4294967295 ∷ 1000001 ∷ [])), 9)  -- 2^32 + 1,000,000 in all
+    ∷ (bytesOf (gas 15 15 (1 ∷ 52 ∷ []) (600101 ∷ 400000 ∷ [])), 9)  -- 9 before 11
     ∷ (bytesOf (gas 15 15 (2 ∷ []) (1000000 ∷ [])), 10)  -- no methane; 10 before 11
     ∷ (bytesOf (gas 15 15 (1 ∷ 42 ∷ 55 ∷ []) (949798 ∷ 201 ∷ 50001 ∷ [])), 11)  -- 11 before 12
     ∷ []
@@ -134,14 +140,33 @@ refusedWrites =
     ∷ (gas 15 15 (1 ∷ []) (1000000 ∷ []), (0, 20))
     ∷ []
 
+-- buffers, and what writing K2 and rewriting K2 give: only the first 13 bytes change
+abbrev pub buffers : List (List ℕ × Outcome (List ℕ))
+buffers =
+    (replicate 12 9, refused 20)
+    ∷ (replicate 13 9, accepted k2)
+    ∷ (replicate 15 9, accepted (k2 ++ (9 ∷ 9 ∷ [])))
+    ∷ []
+
 abbrev pub CasesHold : Type 0
-CasesHold = allHold caseHolds cases ≡ true
+CasesHold = all caseHolds cases ≡ true
 
 abbrev pub FullGasHolds : Type 0
 FullGasHolds = caseHolds (given fullGas 0) ≡ true
 
 abbrev pub DamagedRefused : Type 0
-DamagedRefused = allHold (λ (c : List ℕ × ℕ). refusedBy (c .1) (readingOf (c .0))) damaged ≡ true
+DamagedRefused = all (λ (c : List ℕ × ℕ). sameOutcome sameContents (readingOf (c .0)) (refused (c .1))) damaged ≡ true
 
 abbrev pub WritesRefused : Type 0
-WritesRefused = allHold (λ (c : Contents × (ℕ × ℕ)). refusedBy (c .1 .1) (writingOf (c .0) (replicate (c .1 .0) 0))) refusedWrites ≡ true
+WritesRefused = all (λ (c : Contents × (ℕ × ℕ)). sameOutcome sameList (writingOf (c .0) (replicate (c .1 .0) 0)) (refused (c .1 .1))) refusedWrites ≡ true
+
+abbrev pub BuffersHold : Type 0
+BuffersHold =
+    all
+    (λ (c : List ℕ × Outcome (List ℕ)).
+    sameOutcome sameList (writingOf (gas 15 15 (1 ∷ []) (1000000 ∷ [])) (c .0)) (c .1) && sameOutcome sameList (rewritingOf k2 (c .0)) (c .1))
+    buffers ≡ true
+
+-- a record that is refused is not rewritten, whatever the buffer
+abbrev pub DamagedNotRewritten : Type 0
+DamagedNotRewritten = all (λ (c : List ℕ × ℕ). sameOutcome sameList (rewritingOf (c .0) []) (refused (c .1))) damaged ≡ true

@@ -1,6 +1,6 @@
 -- The conditions of refusal of a record and of the record writer, with document 01's numbers, and their orders.
 use mathlib.Core.Path.{_≡_}
-use mathlib.Core.Bool.{Bool, true, false, not, _&&_, _||_, cond}
+use mathlib.Core.Bool.{Bool, false, not, _&&_, _||_, cond}
 use mathlib.Core.List.{List, [], _∷_, _++_}
 use Prim.Native.Nat.{ℕ}
 use lib.Dec.{eqb, leb, ltb}
@@ -34,7 +34,7 @@ nitrogen = 52
 abbrev pub carbonDioxide : ℕ
 carbonDioxide = 54
 
--- the highest fraction of a line in ppm; methane has none
+-- the highest fraction of a line other than methane, which has no limit, in ppm
 abbrev pub limitOf : ℕ → ℕ
 limitOf l =
     cond (eqb l nitrogen) 300000
@@ -102,17 +102,17 @@ listsDiffer ls xs = not (eqb (length ls) (length xs))
 abbrev pub roomShort : ℕ → ℕ → Bool
 roomShort room n = ltb room (recordLength n)
 
--- 2 to 6, from what holds of the mark, the version, the pair, the count and the length
+-- 2 to 6, from whether each of them holds
 abbrev pub fieldsOrder : Bool → Bool → Bool → Bool → Bool → Order
-fieldsOrder mark version pair count length = (2, mark) ∷ (3, version) ∷ (4, pair) ∷ (5, count) ∷ (6, length) ∷ []
+fieldsOrder two three four five six = (2, two) ∷ (3, three) ∷ (4, four) ∷ (5, five) ∷ (6, six) ∷ []
 
--- 9 to 12, from what holds of the sum, of methane, of the other lines and of water
+-- 9 to 12, from whether each of them holds
 abbrev pub limitsOrder : Bool → Bool → Bool → Bool → Order
-limitsOrder sum methane others water = (9, sum) ∷ (10, methane) ∷ (11, others) ∷ (12, water) ∷ []
+limitsOrder nine ten eleven twelve = (9, nine) ∷ (10, ten) ∷ (11, eleven) ∷ (12, twelve) ∷ []
 
--- 19, 4 and 5, from what holds of the lists, the pair and the count
+-- 19, 4 and 5, from whether each of them holds
 abbrev pub listsOrder : Bool → Bool → Bool → Order
-listsOrder lists pair count = (19, lists) ∷ (4, pair) ∷ (5, count) ∷ []
+listsOrder nineteen four five = (19, nineteen) ∷ (4, four) ∷ (5, five) ∷ []
 
 -- the order of a record, in two parts: 1 to 6, and 7 to 12, which the writer shares
 abbrev pub headOrder : List ℕ → Order
@@ -139,9 +139,16 @@ roomOrder room n = (20, roomShort room n) ∷ []
 abbrev pub writerOrder : Contents → ℕ → Order
 writerOrder k room = startOrder k ++ (contentOrder (k .lines) (k .fractions) ++ roomOrder room (length (k .lines)))
 
--- a record tries 1 to 12, the writer 19, 4, 5, 7 to 12, 20, whatever the input
+-- the order of reading a record and writing it again: that of the record, then 20
+abbrev pub rewriteOrder : List ℕ → ℕ → Order
+rewriteOrder bs room = recordOrder bs ++ roomOrder room (countIn bs)
+
+-- a record tries 1 to 12, the writer 19, 4, 5, 7 to 12, 20, and rewriting 1 to 12, 20, whatever the input
 abbrev pub RecordNumbers : Type 0
 RecordNumbers = (bs : List ℕ) → numbersOf (recordOrder bs) ≡ 1 ∷ 2 ∷ 3 ∷ 4 ∷ 5 ∷ 6 ∷ 7 ∷ 8 ∷ 9 ∷ 10 ∷ 11 ∷ 12 ∷ []
 
 abbrev pub WriterNumbers : Type 0
 WriterNumbers = (k : Contents) (room : ℕ) → numbersOf (writerOrder k room) ≡ 19 ∷ 4 ∷ 5 ∷ 7 ∷ 8 ∷ 9 ∷ 10 ∷ 11 ∷ 12 ∷ 20 ∷ []
+
+abbrev pub RewriteNumbers : Type 0
+RewriteNumbers = (bs : List ℕ) (room : ℕ) → numbersOf (rewriteOrder bs room) ≡ 1 ∷ 2 ∷ 3 ∷ 4 ∷ 5 ∷ 6 ∷ 7 ∷ 8 ∷ 9 ∷ 10 ∷ 11 ∷ 12 ∷ 20 ∷ []

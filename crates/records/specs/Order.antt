@@ -1,5 +1,4 @@
 -- Orders of refusals ("When a call says no" of document 01), and what comes back from a call that tries one.
-use mathlib.Core.Path.{_≡_}
 use mathlib.Core.Bool.{Bool, cond}
 use mathlib.Core.List.{List, [], _∷_}
 use Prim.Native.Nat.{ℕ, zero, suc}
@@ -12,11 +11,6 @@ Order = List (ℕ × Bool)
 abbrev pub firstOf : Order → ℕ
 firstOf [] = 0
 firstOf ((n, holds) ∷ rest) = cond holds n (firstOf rest)
-
--- the first of two numbers that is not 0
-abbrev pub firstNumber : ℕ → ℕ → ℕ
-firstNumber zero m = m
-firstNumber (suc n) m = suc n
 
 -- the numbers of an order
 abbrev pub numbersOf : Order → List ℕ
@@ -34,10 +28,10 @@ module _ {A : Type 0} where
   decided zero a = accepted a
   decided (suc n) a = refused (suc n)
 
-  -- what is left of a value that a call may change: the answer or, where the call is refused, what was there before
-  abbrev pub after : A → Outcome A → A
-  after before (refused n) = before
-  after before (accepted a) = a
+  -- the answer or, where the call is refused, another value
+  abbrev pub otherwise : A → Outcome A → A
+  otherwise other (refused n) = other
+  otherwise other (accepted a) = a
 
 -- the same outcome, with its answer turned into another
 abbrev pub mapped : {A B : Type 0} → (A → B) → Outcome A → Outcome B

@@ -1,10 +1,10 @@
 // The conditions of refusal, each with document 01's number, in the orders of the reader and the writer. 0 stands for none.
 ghost use mathlib.Core.Path.{_≡_};
 ghost use mathlib.Core.Bool.{cond};
-ghost use Prim.Native.Nat.{_+_, _^_, _≤_, _<_};
+ghost use Prim.Native.Nat.{_^_, _≤_, _<_};
 ghost use lib.ListN.{length};
 ghost use Rattle.components.specs.Composition.{total, fractionFor};
-ghost use Rattle.records.specs.Order.{firstOf, firstNumber};
+ghost use Rattle.records.specs.Order.{firstOf};
 ghost use Rattle.records.specs.Conditions.{permitted, limitOf, countOutside, lineBreaks, fractionZero, sumOutside, aboveLimit, anyAbove};
 ghost use Rattle.records.specs.Conditions.{fieldsOrder, limitsOrder, listsOrder, headOrder, contentOrder, writerOrder};
 use super::format;
@@ -39,22 +39,22 @@ fn count_outside(n: usize) -> bool
 }
 
 // 2 to 6 in their order.
-fn fields_number(mark: bool, version: bool, pair: bool, count: bool, length: bool) -> u8
-    ensures { λ r. ⌜ r ≡ firstOf (fieldsOrder mark version pair count length) ⌝ }
+fn fields_number(two: bool, three: bool, four: bool, five: bool, six: bool) -> u8
+    ensures { λ r. ⌜ r ≡ firstOf (fieldsOrder two three four five six) ⌝ }
 {
-    if mark {
+    if two {
         return 2;
     }
-    if version {
+    if three {
         return 3;
     }
-    if pair {
+    if four {
         return 4;
     }
-    if count {
+    if five {
         return 5;
     }
-    if length {
+    if six {
         return 6;
     }
     0
@@ -67,13 +67,13 @@ pub fn head_refusal(bytes: &[u8]) -> u8
     if bytes.len() < 8 {
         return 1;
     }
-    let mark = (bytes[0] != 71) | (bytes[1] != 67) | (bytes[2] != 82);
-    let version = format::number_2(bytes, 3) != 1;
-    let pair = !pair_permitted(bytes[5], bytes[6]);
+    let two = (bytes[0] != b'G') | (bytes[1] != b'C') | (bytes[2] != b'R');
+    let three = format::number_2(bytes, 3) != format::VERSION as u32;
+    let four = !pair_permitted(bytes[5], bytes[6]);
     let n = bytes[7] as usize;
-    let count = count_outside(n);
-    let length = bytes.len() != format::record_length(n);
-    fields_number(mark, version, pair, count, length)
+    let five = count_outside(n);
+    let six = bytes.len() != format::record_length(n);
+    fields_number(two, three, four, five, six)
 }
 
 // 7: the first line number outside 1 to 55, or not above the one before, ends the scan.
@@ -114,7 +114,8 @@ fn fractions_refusal(fractions: &[u32]) -> u8
     }
 }
 
-fn wide(x: u32) -> u64
+// A fraction in 64 bits.
+fn widened(x: u32) -> u64
     ensures { λ r. ⌜ (r ≡ x) × (r < 2 ^ 32) ⌝ }
 {
     x as u64
@@ -128,7 +129,7 @@ fn sum(fractions: &[u32]) -> u64
     let mut sum: u64 = 0;
     let mut k = 0;
     while k < fractions.len() {
-        sum += wide(fractions[k]);
+        sum += widened(fractions[k]);
         k += 1;
     }
     sum
@@ -181,7 +182,7 @@ fn above_limit(line: u8, fraction: u32) -> bool
     (line != METHANE) & (line != WATER) & (limit_of(line) < fraction)
 }
 
-// 11: some entry is.
+// 11: some entry of a line other than methane and water is above its limit.
 fn any_above(lines: &[u8], fractions: &[u32]) -> bool
     requires { ⌜ length (now lines) ≡ length (now fractions) ⌝ }
     ensures { λ r. ⌜ r ≡ anyAbove (now (lines .entry)) (now (fractions .entry)) ⌝ }
@@ -197,32 +198,22 @@ fn any_above(lines: &[u8], fractions: &[u32]) -> bool
 }
 
 // 9 to 12 in their order.
-fn limits_number(sum: bool, methane: bool, others: bool, water: bool) -> u8
-    ensures { λ r. ⌜ r ≡ firstOf (limitsOrder sum methane others water) ⌝ }
+fn limits_number(nine: bool, ten: bool, eleven: bool, twelve: bool) -> u8
+    ensures { λ r. ⌜ r ≡ firstOf (limitsOrder nine ten eleven twelve) ⌝ }
 {
-    if sum {
+    if nine {
         return 9;
     }
-    if methane {
+    if ten {
         return 10;
     }
-    if others {
+    if eleven {
         return 11;
     }
-    if water {
+    if twelve {
         return 12;
     }
     0
-}
-
-// 7 before 8.
-fn scan_number(seven: u8, eight: u8) -> u8
-    ensures { λ r. ⌜ r ≡ firstNumber seven eight ⌝ }
-{
-    if seven != 0 {
-        return seven;
-    }
-    eight
 }
 
 // 7 to 12.
@@ -232,29 +223,31 @@ pub fn content_refusal(lines: &[u8], fractions: &[u32]) -> u8
     ensures { λ r. ⌜ r ≡ firstOf (contentOrder (now (lines .entry)) (now (fractions .entry))) ⌝ }
 {
     let seven = lines_refusal(lines);
-    let eight = fractions_refusal(fractions);
-    let scan = scan_number(seven, eight);
-    if scan != 0 {
-        return scan;
+    if seven != 0 {
+        return seven;
     }
-    let sum = sum_outside(fractions);
-    let methane = fraction_for(METHANE, lines, fractions) < 500000;
-    let others = any_above(lines, fractions);
-    let water = limit_of(WATER) < fraction_for(WATER, lines, fractions);
-    limits_number(sum, methane, others, water)
+    let eight = fractions_refusal(fractions);
+    if eight != 0 {
+        return eight;
+    }
+    let nine = sum_outside(fractions);
+    let ten = fraction_for(METHANE, lines, fractions) < 500000;
+    let eleven = any_above(lines, fractions);
+    let twelve = limit_of(WATER) < fraction_for(WATER, lines, fractions);
+    limits_number(nine, ten, eleven, twelve)
 }
 
 // 19, 4 and 5 in their order.
-fn lists_number(lists: bool, pair: bool, count: bool) -> u8
-    ensures { λ r. ⌜ r ≡ firstOf (listsOrder lists pair count) ⌝ }
+fn lists_number(nineteen: bool, four: bool, five: bool) -> u8
+    ensures { λ r. ⌜ r ≡ firstOf (listsOrder nineteen four five) ⌝ }
 {
-    if lists {
+    if nineteen {
         return 19;
     }
-    if pair {
+    if four {
         return 4;
     }
-    if count {
+    if five {
         return 5;
     }
     0

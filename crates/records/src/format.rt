@@ -1,9 +1,12 @@
 // The bytes of a record: its entries read, its head and entries written.
 ghost use mathlib.Core.Path.{_≡_};
-ghost use Prim.Native.Nat.{_+_, _*_, _≤_, _<_};
+ghost use Prim.Native.Nat.{_+_, _≤_, _<_};
 ghost use lib.ListN.{length, drop};
-ghost use Rattle.records.specs.Format.{entriesAt, recordLength, number2, number4, linesOf, fractionsOf, headBytes, entryBytes, entriesBytes, placed};
+ghost use Rattle.records.specs.Format.{entriesAt, recordLength, number2, number4, linesOf, fractionsOf, headBytes, entryBytes, entriesBytes, bytesOf, placed, Room};
+ghost use Rattle.records.specs.Order.{decided, otherwise};
 ghost use Rattle.records.specs.Answers.{padded};
+
+pub const VERSION: u8 = 1;
 
 // Where the entries begin.
 pub const ENTRIES_AT: usize = 8;
@@ -16,6 +19,7 @@ pub fn record_length(n: usize) -> usize
     ENTRIES_AT + 5 * n
 }
 
+// A byte in 32 bits.
 fn wide(x: u8) -> u32
     ensures { λ r. ⌜ (r ≡ x) × (r < 256) ⌝ }
 {
@@ -68,10 +72,10 @@ pub fn put_head(out: &mut [u8], combustion: u8, metering: u8, n: u8)
     requires { ⌜ entriesAt ≤ length (now out) ⌝ }
     ensures { λ _. ⌜ now (out .exit) ≡ placed (now (out .entry)) 0 (headBytes combustion metering n) ⌝ }
 {
-    out[0] = 71;
-    out[1] = 67;
-    out[2] = 82;
-    out[3] = 1;
+    out[0] = b'G';
+    out[1] = b'C';
+    out[2] = b'R';
+    out[3] = VERSION;
     out[4] = 0;
     out[5] = combustion;
     out[6] = metering;
@@ -101,4 +105,23 @@ pub fn put_entries(out: &mut [u8], lines: &[u8], fractions: &[u32])
         put_entry(out, ENTRIES_AT + 5 * k, lines[k], fractions[k]);
         k += 1;
     }
+}
+
+// A record into the first bytes of a buffer, unless a condition with this number refuses it.
+pub fn put_record(
+    refusal: u8,
+    combustion: u8,
+    metering: u8,
+    lines: &[u8],
+    fractions: &[u32],
+    out: &mut [u8],
+)
+    requires { ⌜ (refusal ≡ 0 → Room (length (now lines)) (length (now fractions)) (length (now out))) ⌝ }
+    ensures { λ _. ⌜ now (out .exit) ≡ otherwise (now (out .entry)) (decided refusal (placed (now (out .entry)) 0 (bytesOf (record { combustion = combustion; metering = metering; lines = now (lines .entry); fractions = now (fractions .entry) })))) ⌝ }
+{
+    if refusal != 0 {
+        return;
+    }
+    put_head(out, combustion, metering, lines.len() as u8);
+    put_entries(out, lines, fractions);
 }

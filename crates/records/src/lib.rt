@@ -1,7 +1,9 @@
 // The analysis record of document 01: read, written, and read and written again. Every list of bytes, and every composition and
 // buffer, gets its answer or the one number of its refusal.
 ghost use mathlib.Core.Path.{_≡_};
-ghost use Rattle.records.specs.Answers.{Reads, Writes, Rewrites, blank};
+ghost use Rattle.records.specs.Order.{firstOf};
+ghost use Rattle.records.specs.Conditions.{headOrder};
+ghost use Rattle.records.specs.Answers.{Reads, Writes, Rewrites, verdictOf, blank};
 
 mod conditions;
 mod format;
@@ -27,6 +29,16 @@ pub struct Reading {
     pub analysis: Analysis,
 }
 
+// The verdict of a number, 0 where no condition holds.
+fn verdict_of(number: u8) -> Verdict
+    ensures { λ r. ⌜ r ≡ verdictOf number ⌝ }
+{
+    if number == 0 {
+        return Verdict::Accepted;
+    }
+    Verdict::Refused(number)
+}
+
 fn refused(number: u8) -> Reading
     ensures { λ r. ⌜ (r .verdict ≡ Verdict.Refused number) × (r .analysis ≡ blank) ⌝ }
 {
@@ -50,6 +62,14 @@ pub fn read(bytes: &[u8]) -> Reading
     if head != 0 {
         return refused(head);
     }
+    read_content(bytes)
+}
+
+// The same where none of 1 to 6 holds.
+fn read_content(bytes: &[u8]) -> Reading
+    requires { ⌜ firstOf (headOrder (now bytes)) ≡ 0 ⌝ }
+    ensures { λ r. ⌜ Reads (now (bytes .entry)) r ⌝ }
+{
     let n = bytes[7] as usize;
     let entries = format::read_entries(bytes, n);
     let lines = entries.lines;
@@ -81,12 +101,8 @@ pub fn write(
     ensures { λ r. ⌜ Writes (record { combustion = combustion; metering = metering; lines = now (lines .entry); fractions = now (fractions .entry) }) (now (out .entry)) (now (out .exit)) r ⌝ }
 {
     let refusal = conditions::writer_refusal(combustion, metering, lines, fractions, out.len());
-    if refusal != 0 {
-        return Verdict::Refused(refusal);
-    }
-    format::put_head(out, combustion, metering, lines.len() as u8);
-    format::put_entries(out, lines, fractions);
-    Verdict::Accepted
+    format::put_record(refusal, combustion, metering, lines, fractions, out);
+    verdict_of(refusal)
 }
 
 // Reads a record and writes it again into a buffer.

@@ -1,16 +1,14 @@
 -- What the reader refuses is refused; what it accepts is written as its contents.
-use mathlib.Core.Path.{_≡_, refl, sym, ap, _∙_}
+use mathlib.Core.Path.{_≡_, sym}
 use mathlib.Core.List.{List}
 use Prim.Native.Nat.{ℕ}
 use borrow.Author.Needs.{needs}
-use lib.ListN.{length, take}
 use Rattle.records.specs.declared.Analysis.{Analysis}
 use Rattle.records.specs.Order.{firstOf}
-use Rattle.records.specs.Format.{countIn, linesIn, fractionsIn, contentsIn}
-use Rattle.records.specs.Conditions.{recordOrder, roomOrder}
+use Rattle.records.specs.Format.{linesIn, fractionsIn, contentsIn}
+use Rattle.records.specs.Conditions.{recordOrder}
 use Rattle.records.specs.Answers.{held}
-use Rattle.records.proofs.OrderLaws.{stops, gives-refused}
-use Rattle.records.proofs.ReadLaws.{Prefix, lines-held, fractions-held, accepted-is, refused-is, rewrites}
+use Rattle.records.proofs.ReadLaws.{Prefix, lines-held, fractions-held, accepted-is, refused-is, rewrites, rewrites-refused}
 use Rattle.records.proofs.rewrite.Statement.{statement}
 use Rattle.records.proofs.rewrite.Tie as tie
 
@@ -62,8 +60,9 @@ returns : tie.Need-returns
 returns c =
     let r = c .before .before .before .before in
     let a = r .before .before .before .args in
-    let d = refused-is (a .bytes .now) _ _ (r .read .ensures) (c .before .verdict .given .1) in
-    gives-refused _ _ (a .out .now) _ (stops (recordOrder (a .bytes .now)) (roomOrder (length (a .out .now)) (countIn (a .bytes .now))) tt (d .0) (d .1)) (d .1)
+    let v = c .before .verdict .given .1 in
+    let d = refused-is (a .bytes .now) _ _ (r .read .ensures) v in
+    rewrites-refused (a .bytes .now) (a .out .now) _ (d .0) (d .1)
 
 same-length : tie.Need-same-length
 same-length c = search needs

@@ -1,16 +1,15 @@
--- The writer's number and the buffer as it was, or the head and the entries placed in it.
-use mathlib.Core.Path.{_≡_, refl, sym, _∙_}
+-- The number decides the buffer and the verdict.
+use mathlib.Core.Path.{_≡_, sym, _∙_}
 use mathlib.Core.List.{List}
 use Prim.Native.Nat.{ℕ}
 use native.Mathlib.Omega.{arith}
 use borrow.Author.Needs.{needs}
 use lib.ListN.{length}
 use Rattle.records.specs.Order.{firstOf}
-use Rattle.records.specs.Format.{Contents, entriesAt, headBytes, entriesBytes}
+use Rattle.records.specs.Format.{Contents, bytesOf, placed, Room}
 use Rattle.records.specs.Conditions.{writerOrder}
-use Rattle.records.proofs.OrderLaws.{gives-refused, gives-accepted}
-use Rattle.records.proofs.Placing.{placed-after}
-use Rattle.records.proofs.RoundTrips.{started, fits}
+use Rattle.records.proofs.OrderLaws.{gives}
+use Rattle.records.proofs.RoundTrips.{accepted-room}
 use Rattle.records.proofs.write.Statement.{statement}
 use Rattle.records.proofs.write.Tie as tie
 
@@ -30,40 +29,26 @@ module _ (c : tie.After-writer-refusal) where
   abbrev old : List ℕ
   old = begin .args .out .now
 
--- where nothing refuses it
-clear : (c : tie.Else1) → firstOf (writerOrder (k (c .before)) (length (old (c .before)))) ≡ 0
-clear c = omega (arith, c .before .writer-refusal .ensures)
-
 writer-refusal-requires : tie.Need-writer-refusal-requires
 writer-refusal-requires c κs = tt
 
-returns : tie.Need-returns
-returns c = gives-refused _ _ (old (c .before)) _ (c .before .writer-refusal .ensures) (λ z. omega arith)
+put-record-requires : tie.Need-put-record-requires
+put-record-requires c κs = λ z. accepted-room (k (c .before)) (length (old (c .before))) (omega (arith, c .before .writer-refusal .ensures))
 
-cast-put-head : tie.Need-cast-put-head
-cast-put-head c = omega (arith, started (k (c .before .before)) _ (clear (c .before)) .entries .few)
-
-put-head-requires : tie.Need-put-head-requires
-put-head-requires c κs = omega (arith, fits (k (c .before .before)) _ (clear (c .before)))
-
-put-entries-requires : tie.Need-put-entries-requires
-put-entries-requires c κs =
-    let e = c .before .before .before .before .before in
-    (started (k (e .before)) _ (clear e) .same, omega (arith, fits (k (e .before)) _ (clear e), c .before .before .before .put-head .kept .0))
+verdict-of-requires : tie.Need-verdict-of-requires
+verdict-of-requires c κs = tt
 
 same-length : tie.Need-same-length
 same-length c = search needs
 
-returns-2 : tie.Need-returns-2
-returns-2 c =
-    let h = c .before .before .before .before .before .before in
-    let e = h .before .before in
-    let q = k (e .before) in
-    gives-accepted _ _ (old (e .before)) _ (clear e)
-    (c .before .before .put-entries .ensures
-    ∙ rw (h .put-head .ensures) (placed-after (old (e .before)) (headBytes (q .combustion) (q .metering) (length (q .lines))) (entriesBytes (q .lines) (q .fractions)) 0 entriesAt (omega arith) refl))
+returns : tie.Need-returns
+returns c =
+    let p = c .before .before .before in
+    let w = p .before .before in
+    rw (← w .writer-refusal .ensures)
+    (gives (w .writer-refusal .result) (placed (old w) 0 (bytesOf (k w))) (old w) _ _ (c .verdict-of .ensures) (p .put-record .ensures))
 
 pub write-spec : {M : Type 1} → statement M
 write-spec =
     tie.close
-    (tie.spec writer-refusal-requires returns cast-put-head put-head-requires put-entries-requires same-length returns-2)
+    (tie.spec writer-refusal-requires put-record-requires verdict-of-requires same-length returns)

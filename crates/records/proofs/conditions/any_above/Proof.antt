@@ -1,9 +1,8 @@
 -- The loop keeps that an entry left is above its limit just where one of all is.
-use mathlib.Core.Path.{_≡_, refl, sym, _∙_}
-use mathlib.Core.Bool.{Bool}
+use mathlib.Core.Path.{_≡_, refl, _∙_}
 use Prim.Native.Nat.{_-_, _≤_}
 use native.Mathlib.Omega.{arith}
-use lib.ListN.{length, getD, drop, drop-of-length-le}
+use lib.ListN.{length, drop, drop-of-length-le}
 use Rattle.records.specs.Conditions.{anyAbove}
 use Rattle.records.proofs.Scans.{above-step}
 use Rattle.records.proofs.conditions.any_above.Statement.{statement}

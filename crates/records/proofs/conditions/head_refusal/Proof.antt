@@ -9,17 +9,20 @@ use Rattle.records.proofs.conditions.head_refusal.Tie as tie
 returns : tie.Need-returns
 returns c = rw (lt-ltb (length (c .before .before .args .bytes .now)) 8 (omega arith))
 
-shared-slice-read-mark : tie.Need-shared-slice-read-mark
-shared-slice-read-mark c = omega arith
+shared-slice-read-two : tie.Need-shared-slice-read-two
+shared-slice-read-two c = omega arith
 
-shared-slice-read-mark-2 : tie.Need-shared-slice-read-mark-2
-shared-slice-read-mark-2 c = omega arith
+shared-slice-read-two-2 : tie.Need-shared-slice-read-two-2
+shared-slice-read-two-2 c = omega arith
 
-shared-slice-read-mark-3 : tie.Need-shared-slice-read-mark-3
-shared-slice-read-mark-3 c = omega arith
+shared-slice-read-two-3 : tie.Need-shared-slice-read-two-3
+shared-slice-read-two-3 c = omega arith
 
 number-2-requires : tie.Need-number-2-requires
 number-2-requires c κs = omega arith
+
+cast-three : tie.Need-cast-three
+cast-three c = omega arith
 
 shared-slice-read-pair-permitted : tie.Need-shared-slice-read-pair-permitted
 shared-slice-read-pair-permitted c = omega arith
@@ -59,10 +62,11 @@ head-refusal-spec =
     tie.close
     (tie.spec
     returns
-    shared-slice-read-mark
-    shared-slice-read-mark-2
-    shared-slice-read-mark-3
+    shared-slice-read-two
+    shared-slice-read-two-2
+    shared-slice-read-two-3
     number-2-requires
+    cast-three
     shared-slice-read-pair-permitted
     shared-slice-read-pair-permitted-2
     pair-permitted-requires

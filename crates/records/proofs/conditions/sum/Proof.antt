@@ -1,10 +1,10 @@
 -- The loop keeps that what is summed and the total of what is left are the whole; 55 numbers of 32 bits fit 64.
-use mathlib.Core.Path.{_≡_, refl, _∙_}
+use mathlib.Core.Path.{_≡_}
 use Prim.Native.Nat.{_+_, _-_, _*_, _^_, _≤_}
 use native.Mathlib.Omega.{arith}
 use lib.ListN.{length, drop, drop-of-length-le}
 use Rattle.components.specs.Composition.{total}
-use Rattle.records.proofs.Scans.{total-step}
+use Rattle.components.proofs.SumLaws.{total-step}
 use Rattle.records.proofs.conditions.sum.Statement.{statement}
 use Rattle.records.proofs.conditions.sum.Tie as tie
 
@@ -17,14 +17,14 @@ abbrev μ-loop : tie.MeasureT-loop
 loop-holds : tie.Need-loop-holds Inv-loop μ-loop
 loop-holds c = (omega arith, omega arith, omega arith)
 
-mul-wide : tie.Need-mul-wide Inv-loop μ-loop
-mul-wide c = omega arith
+mul-widened : tie.Need-mul-widened Inv-loop μ-loop
+mul-widened c = omega arith
 
-shared-slice-read-wide : tie.Need-shared-slice-read-wide Inv-loop μ-loop
-shared-slice-read-wide c = omega arith
+shared-slice-read-widened : tie.Need-shared-slice-read-widened Inv-loop μ-loop
+shared-slice-read-widened c = omega arith
 
-wide-requires : tie.Need-wide-requires Inv-loop μ-loop
-wide-requires c κs = tt
+widened-requires : tie.Need-widened-requires Inv-loop μ-loop
+widened-requires c κs = tt
 
 add-sum : tie.Need-add-sum Inv-loop μ-loop
 add-sum c = omega arith
@@ -55,9 +55,9 @@ sum-spec =
     Inv-loop
     μ-loop
     loop-holds
-    mul-wide
-    shared-slice-read-wide
-    wide-requires
+    mul-widened
+    shared-slice-read-widened
+    widened-requires
     add-sum
     add-k
     loop-less

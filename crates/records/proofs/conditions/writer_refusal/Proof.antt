@@ -1,6 +1,6 @@
 -- 19, 4 and 5, then the conditions shared with the reader, then the room.
 use mathlib.Core.Path.{_≡_, sym, _∙_}
-use mathlib.Core.List.{List, _++_}
+use mathlib.Core.List.{_++_}
 use Prim.Native.Nat.{ℕ}
 use native.Mathlib.Omega.{arith}
 use borrow.Author.Tests.{lt-ltb, le-ltb}
@@ -63,7 +63,7 @@ lists-number-requires c κs = tt
 returns : tie.Need-returns
 returns c =
     let b = c .before in
-    stops (startOrder (k b)) (contentOrder (k b .lines) (k b .fractions) ++ roomOrder (room b) (length (k b .lines))) tt (starts b) (λ z. omega arith)
+    stops (startOrder (k b)) (contentOrder (k b .lines) (k b .fractions) ++ roomOrder (room b) (length (k b .lines))) (starts b) (λ z. omega arith)
 
 content-refusal-requires : tie.Need-content-refusal-requires
 content-refusal-requires c κs = (started c .same, omega (arith, started c .same, started c .entries .few))
@@ -72,7 +72,7 @@ returns-2 : tie.Need-returns-2
 returns-2 c =
     let b = c .before .before in
     let a = b .before in
-    pass-start b _ (stops (contentOrder (k a .lines) (k a .fractions)) (roomOrder (room a) (length (k a .lines))) tt (c .before .content-refusal .ensures) (λ z. omega arith))
+    pass-start b _ (stops (contentOrder (k a .lines) (k a .fractions)) (roomOrder (room a) (length (k a .lines))) (c .before .content-refusal .ensures) (λ z. omega arith))
 
 record-length-requires : tie.Need-record-length-requires
 record-length-requires c κs = omega (arith, started (c .before .before) .entries .few)
