@@ -47,14 +47,14 @@ gas c m ls xs = record { combustion = c; metering = m; lines = ls; fractions = x
 abbrev pub given : Contents → ℕ → Case
 given k n = record { contents = k; bytes = bytesOf k; number = n }
 
+-- the record of K2, as printed
+abbrev pub k2 : List ℕ
+k2 = 0x47 ∷ 0x43 ∷ 0x52 ∷ 0x01 ∷ 0x00 ∷ 0x0F ∷ 0x0F ∷ 0x01 ∷ 0x01 ∷ 0x40 ∷ 0x42 ∷ 0x0F ∷ 0x00 ∷ []
+
 abbrev pub cases : List Case
 cases =
     given (gas 15 15 (1 ∷ 2 ∷ 3 ∷ 4 ∷ 5 ∷ 6 ∷ 52 ∷ 54 ∷ []) (924700 ∷ 35000 ∷ 9800 ∷ 2200 ∷ 3400 ∷ 600 ∷ 17500 ∷ 6800 ∷ [])) 0  -- K1
-    ∷ record {
-      contents = gas 15 15 (1 ∷ []) (1000000 ∷ []);
-      bytes = 0x47 ∷ 0x43 ∷ 0x52 ∷ 0x01 ∷ 0x00 ∷ 0x0F ∷ 0x0F ∷ 0x01 ∷ 0x01 ∷ 0x40 ∷ 0x42 ∷ 0x0F ∷ 0x00 ∷ [];
-      number = 0;
-    }  -- K2
+    ∷ record { contents = gas 15 15 (1 ∷ []) (1000000 ∷ []); bytes = k2; number = 0 }  -- K2
     ∷ given (gas 15 15 (1 ∷ []) (999900 ∷ [])) 0  -- K3
     ∷ given (gas 15 15 (1 ∷ []) (1000100 ∷ [])) 0
     ∷ given (gas 15 15 (1 ∷ []) (999899 ∷ [])) 9
@@ -90,10 +90,6 @@ head marks low high n = marks ++ (low ∷ high ∷ 15 ∷ 15 ∷ n ∷ [])
 -- an entry: methane 1,000,000
 abbrev pub entry : List ℕ
 entry = 1 ∷ 0x40 ∷ 0x42 ∷ 0x0F ∷ 0x00 ∷ []
-
--- the record of K2
-abbrev pub k2 : List ℕ
-k2 = head mark 1 0 1 ++ entry
 
 -- bytes and the number that refuses them
 abbrev pub damaged : List (List ℕ × ℕ)
