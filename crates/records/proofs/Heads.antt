@@ -37,6 +37,12 @@ head bs e =
       exact = eqb-true _ _ (not-false _ (h 6));
     }
 
+-- as many fractions as line numbers, at most 55, and room for the record
+pub record Room (k : Contents) (room : ℕ) : Type 0 where
+  pub same : length (k .lines) ≡ length (k .fractions)
+  pub few : length (k .lines) ≤ 55
+  pub fits : recordLength (length (k .lines)) ≤ room
+
 pub record Start (k : Contents) : Type 0 where
   pub same : length (k .lines) ≡ length (k .fractions)
   pub pair : permitted (k .combustion) (k .metering) ≡ true

@@ -9,12 +9,12 @@ use lib.ListN.{length, getD, take, drop, take-append-drop, length-drop}
 use lib.Seq.{take-suc, take-at, getD-drop}
 use Rattle.components.specs.Composition.{total}
 use Rattle.records.specs.Order.{Order, firstOf, accepted, decided}
-use Rattle.records.specs.Format.{Contents, Bytes, Room, mark, entriesAt, recordLength, number4, combustionIn, meteringIn, countIn, linesOf, fractionsOf, linesIn, fractionsIn, contentsIn, headBytes, entryBytes, entriesBytes, bytesOf, placed}
+use Rattle.records.specs.Format.{Contents, Bytes, mark, entriesAt, recordLength, number4, combustionIn, meteringIn, countIn, linesOf, fractionsOf, linesIn, fractionsIn, contentsIn, headBytes, entryBytes, entriesBytes, bytesOf, placed}
 use Rattle.records.specs.Conditions.{headOrder, contentOrder, recordOrder, startOrder, roomOrder, writerOrder}
 use Rattle.records.specs.Calls.{readingOf, writingOf, rewritingOf}
 use Rattle.records.specs.RoundTrips.{ReadThenWritten, WrittenThenRead}
 use Rattle.records.proofs.OrderLaws.{passes, clear-first, clear-second, unmet, neither, decided-accepted}
-use Rattle.records.proofs.Heads.{Head, head, Start, start}
+use Rattle.records.proofs.Heads.{Head, head, Start, start, Room}
 use Rattle.records.proofs.Digits.{digit-0, digit-1, digit-2, digit-3, from-digits}
 use Rattle.records.proofs.Entries.{length-lines, length-fractions, length-entries}
 
@@ -128,7 +128,7 @@ module _ (k : Contents) (room : ℕ) (h : firstOf (writerOrder k room) ≡ 0) wh
   started : Start k
   started = start k (clear-first (startOrder k) (content ++ last) tt h)
 
-  pub accepted-room : Room (length (k .lines)) (length (k .fractions)) room
+  pub accepted-room : Room k room
   accepted-room = record { same = started .same; few = started .entries .few; fits = ltb-false _ _ (unmet (writerOrder k room) tt h 20) }
 
   content-clear : firstOf content ≡ 0

@@ -1,7 +1,6 @@
 -- The analysis record of document 01: its bytes, the numbers in them, and what it holds. Numbers stand least significant byte first.
 use mathlib.Core.List.{List, [], _∷_, _++_}
-use mathlib.Core.Path.{_≡_}
-use Prim.Native.Nat.{ℕ, zero, suc, _+_, _*_, _/_, _%_, _≤_, _<_}
+use Prim.Native.Nat.{ℕ, zero, suc, _+_, _*_, _/_, _%_, _<_}
 use lib.ListN.{length, getD, take, drop}
 
 -- the pair (combustion and metering temperature in °C), the line numbers, and the mole fractions in ppm
@@ -81,12 +80,6 @@ bytesOf k = headBytes (k .combustion) (k .metering) (length (k .lines)) ++ entri
 -- a buffer in which the bytes bs stand at an offset, and every other byte is as it was
 abbrev pub placed : List ℕ → ℕ → List ℕ → List ℕ
 placed old at bs = take at old ++ bs ++ drop (at + length bs) old
-
--- as many fractions as line numbers, at most 55, and room for the record in a buffer
-pub record Room (lines fractions room : ℕ) : Type 0 where
-  pub same : lines ≡ fractions
-  pub few : lines ≤ 55
-  pub fits : recordLength lines ≤ room
 
 -- every number of the list is a byte
 abbrev pub Bytes : List ℕ → Type 0

@@ -2,8 +2,10 @@
 ghost use mathlib.Core.Path.{_≡_};
 ghost use Prim.Native.Nat.{_+_, _≤_, _<_};
 ghost use lib.ListN.{length, drop};
-ghost use Rattle.records.specs.Format.{entriesAt, recordLength, number2, number4, linesOf, fractionsOf, headBytes, entryBytes, entriesBytes, bytesOf, placed, Room};
-ghost use Rattle.records.specs.Order.{decided, otherwise};
+ghost use Rattle.records.specs.Format.{entriesAt, recordLength, number2, number4, linesOf, fractionsOf, headBytes, entryBytes, entriesBytes, placed};
+ghost use Rattle.records.specs.Order.{firstOf, otherwise};
+ghost use Rattle.records.specs.Conditions.{writerOrder};
+ghost use Rattle.records.specs.Calls.{writingOf};
 ghost use Rattle.records.specs.Answers.{padded};
 
 pub const VERSION: u8 = 1;
@@ -107,7 +109,7 @@ pub fn put_entries(out: &mut [u8], lines: &[u8], fractions: &[u32])
     }
 }
 
-// A record into the first bytes of a buffer, unless a condition with this number refuses it.
+// A record into the first bytes of a buffer, or nothing where the writer's order gives a number.
 pub fn put_record(
     refusal: u8,
     combustion: u8,
@@ -116,8 +118,8 @@ pub fn put_record(
     fractions: &[u32],
     out: &mut [u8],
 )
-    requires { ⌜ (refusal ≡ 0 → Room (length (now lines)) (length (now fractions)) (length (now out))) ⌝ }
-    ensures { λ _. ⌜ now (out .exit) ≡ otherwise (now (out .entry)) (decided refusal (placed (now (out .entry)) 0 (bytesOf (record { combustion = combustion; metering = metering; lines = now (lines .entry); fractions = now (fractions .entry) })))) ⌝ }
+    requires { ⌜ refusal ≡ firstOf (writerOrder (record { combustion = combustion; metering = metering; lines = now lines; fractions = now fractions }) (length (now out))) ⌝ }
+    ensures { λ _. ⌜ now (out .exit) ≡ otherwise (now (out .entry)) (writingOf (record { combustion = combustion; metering = metering; lines = now (lines .entry); fractions = now (fractions .entry) }) (now (out .entry))) ⌝ }
 {
     if refusal != 0 {
         return;

@@ -1,6 +1,7 @@
 // Runs the compiled reader and writer on the cases K1 to K8 of document 01 and on damaged input, and prints what comes back.
 // For a gas: the writer's answer, how many of the 300 bytes of the buffer still hold 170 as before, and what reading the front of the
-// buffer gives. For bytes: what reading them gives, and what reading them and writing them again gives.
+// buffer gives. For bytes: what reading them gives, what reading them and writing them again gives, and how many of the 15 bytes of
+// that buffer still hold 170.
 ghost use Prim.Native.Nat.{_≤_};
 use libc::STDOUT_FILENO;
 use records::Verdict;
@@ -77,7 +78,7 @@ fn gas(combustion: u8, metering: u8, lines: &[u8], fractions: &[u32]) {
 }
 
 fn bytes(bytes: &[u8]) {
-    let mut out = [170u8; 13];
+    let mut out = [170u8; 15];
     io::write_all(STDOUT_FILENO, b"read:");
     print_reading(bytes);
     io::write_all(STDOUT_FILENO, b" rewrite:");
@@ -86,11 +87,15 @@ fn bytes(bytes: &[u8]) {
     end_line();
 }
 
-// The 13 bytes of K2 into a buffer that is a byte short.
+// K2 written, and read and written again, into a buffer that is a byte short.
 fn short() {
     let mut out = [170u8; 12];
     io::write_all(STDOUT_FILENO, b"short:");
     print_verdict(records::write(15, 15, &[1], &[1000000], &mut out));
+    print_verdict(records::rewrite(
+        b"\x47\x43\x52\x01\x00\x0F\x0F\x01\x01\x40\x42\x0F\x00",
+        &mut out,
+    ));
     print_number(untouched(&out));
     end_line();
 }
@@ -147,6 +152,20 @@ fn cases() {
     gas(15, 15, &[1, 1], &[500000, 500000]);
 }
 
+// The refused records of K3, K4, K5, K6 and K8, and one with a fraction of 0, byte by byte.
+fn refused() {
+    bytes(b"\x47\x43\x52\x01\x00\x0F\x0F\x01\x01\xDB\x41\x0F\x00");
+    bytes(b"\x47\x43\x52\x01\x00\x0F\x0F\x01\x01\xA5\x42\x0F\x00");
+    bytes(b"\x47\x43\x52\x01\x00\x0F\x0F\x02\x01\x5F\xAE\x0A\x00\x34\xE1\x93\x04\x00");
+    bytes(
+        b"\x47\x43\x52\x01\x00\x0F\x0F\x04\x01\x1F\xA1\x07\x00\x02\x51\xC3\x00\x00\x34\xE0\x93\x04\x00\x36\xF0\x49\x02\x00",
+    );
+    bytes(b"\x47\x43\x52\x01\x00\x0F\x0F\x02\x01\x77\x41\x0F\x00\x2A\xC9\x00\x00\x00");
+    bytes(b"\x47\x43\x52\x01\x00\x19\x0F\x01\x01\x40\x42\x0F\x00");
+    bytes(b"\x47\x43\x52\x01\x00\x0F\x0F\x02\x01\x20\xA1\x07\x00\x01\x20\xA1\x07\x00");
+    bytes(b"\x47\x43\x52\x01\x00\x0F\x0F\x02\x01\x40\x42\x0F\x00\x02\x00\x00\x00\x00");
+}
+
 fn damaged() {
     bytes(&[]);
     bytes(&[0x47, 0x43, 0x52, 0x01, 0x00, 0x0F, 0x0F]);
@@ -188,6 +207,7 @@ fn all_lines() {
 
 fn main() {
     cases();
+    refused();
     damaged();
     all_lines();
 }

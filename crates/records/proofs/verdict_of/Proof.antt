@@ -1,5 +1,4 @@
 -- A number that is not 0 is a refusal.
-use mathlib.Core.Path.{sym}
 use native.Mathlib.Omega.{arith}
 use Rattle.records.proofs.OrderLaws.{verdict-refused}
 use Rattle.records.proofs.verdict_of.Statement.{statement}

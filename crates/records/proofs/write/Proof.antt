@@ -1,15 +1,13 @@
 -- The number decides the buffer and the verdict.
-use mathlib.Core.Path.{_≡_, sym, _∙_}
 use mathlib.Core.List.{List}
 use Prim.Native.Nat.{ℕ}
 use native.Mathlib.Omega.{arith}
 use borrow.Author.Needs.{needs}
 use lib.ListN.{length}
 use Rattle.records.specs.Order.{firstOf}
-use Rattle.records.specs.Format.{Contents, bytesOf, placed, Room}
+use Rattle.records.specs.Format.{Contents, bytesOf, placed}
 use Rattle.records.specs.Conditions.{writerOrder}
 use Rattle.records.proofs.OrderLaws.{gives}
-use Rattle.records.proofs.RoundTrips.{accepted-room}
 use Rattle.records.proofs.write.Statement.{statement}
 use Rattle.records.proofs.write.Tie as tie
 
@@ -33,7 +31,7 @@ writer-refusal-requires : tie.Need-writer-refusal-requires
 writer-refusal-requires c κs = tt
 
 put-record-requires : tie.Need-put-record-requires
-put-record-requires c κs = λ z. accepted-room (k (c .before)) (length (old (c .before))) (omega (arith, c .before .writer-refusal .ensures))
+put-record-requires c κs = omega (arith, c .before .writer-refusal .ensures)
 
 verdict-of-requires : tie.Need-verdict-of-requires
 verdict-of-requires c κs = tt
@@ -45,8 +43,8 @@ returns : tie.Need-returns
 returns c =
     let p = c .before .before .before in
     let w = p .before .before in
-    rw (← w .writer-refusal .ensures)
-    (gives (w .writer-refusal .result) (placed (old w) 0 (bytesOf (k w))) (old w) _ _ (c .verdict-of .ensures) (p .put-record .ensures))
+    gives (firstOf (writerOrder (k w) (length (old w)))) (placed (old w) 0 (bytesOf (k w))) (old w) _ _
+    (rw (w .writer-refusal .ensures) at (c .verdict-of .ensures)) (p .put-record .ensures)
 
 pub write-spec : {M : Type 1} → statement M
 write-spec =

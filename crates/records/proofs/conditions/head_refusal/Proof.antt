@@ -54,8 +54,8 @@ returns-2 c =
     let n = l .before in
     let p = n .before .before in
     let v = p .before .before .before in
-    c .fields-number .ensures
-    ∙ rw (l .record-length .ensures, n .count-outside .ensures, p .pair-permitted .ensures, v .number-2 .ensures, le-ltb _ _ (v .before .before .before .before .if1 .left))
+    rw (le-ltb _ _ (v .before .before .before .before .if1 .left))
+    (rw (l .record-length .ensures, n .count-outside .ensures, p .pair-permitted .ensures, v .number-2 .ensures) at (c .fields-number .ensures))
 
 pub head-refusal-spec : {M : Type 1} → statement M
 head-refusal-spec =

@@ -1,35 +1,35 @@
 -- The buffer as it was, or the head and the entries placed in it.
-use mathlib.Core.Path.{_≡_, refl, _∙_}
+use mathlib.Core.Path.{refl, _∙_}
 use mathlib.Core.List.{List}
 use Prim.Native.Nat.{ℕ}
 use native.Mathlib.Omega.{arith}
 use borrow.Author.Needs.{needs}
 use lib.ListN.{length}
-use Rattle.records.specs.Format.{entriesAt, headBytes, entriesBytes, Room}
+use Rattle.records.specs.Format.{Contents, entriesAt, headBytes, entriesBytes, bytesOf, placed}
 use Rattle.records.proofs.OrderLaws.{beside}
+use Rattle.records.proofs.Heads.{Room}
 use Rattle.records.proofs.Placing.{placed-after}
+use Rattle.records.proofs.RoundTrips.{accepted-room}
 use Rattle.records.proofs.format.put_record.Statement.{statement}
 use Rattle.records.proofs.format.put_record.Tie as tie
 
--- where nothing refuses it
-module _ (c : tie.Else1) where
-  abbrev begin : tie.Start
-  begin = c .before .before .before .before
-
-  abbrev lines : List ℕ
-  lines = begin .args .lines .now
-
-  abbrev fractions : List ℕ
-  fractions = begin .args .fractions .now
+module _ (c : tie.Start) where
+  abbrev k : Contents
+  k = record { combustion = c .args .combustion; metering = c .args .metering; lines = c .args .lines .now; fractions = c .args .fractions .now }
 
   abbrev old : List ℕ
-  old = begin .args .out .now
+  old = c .args .out .now
 
-  room : Room (length lines) (length fractions) (length old)
-  room = begin .pre (omega arith)
+-- where nothing refuses it
+room : (c : tie.Else1) → Room (k (c .before .before .before .before)) (length (old (c .before .before .before .before)))
+room c =
+    let s = c .before .before .before .before in
+    accepted-room (k s) (length (old s)) (omega (arith, s .pre))
 
 returns : tie.Need-returns
-returns c = beside (c .before .before .before .before .args .refusal) _ (c .before .before .before .before .args .out .now) (λ z. omega arith)
+returns c =
+    let s = c .before .before .before .before in
+    rw (← s .pre) (beside (s .args .refusal) (placed (old s) 0 (bytesOf (k s))) (old s) (λ z. omega arith))
 
 cast-put-head : tie.Need-cast-put-head
 cast-put-head c = omega (arith, room (c .before) .few)
@@ -49,10 +49,11 @@ returns-2 : tie.Need-returns-2
 returns-2 c =
     let h = c .before .before .before .before .before .before in
     let e = h .before .before in
-    let a = begin e .args in
-    rw (e .if1 .left)
+    let s = e .before .before .before .before in
+    rw (← s .pre, e .if1 .left)
     (c .before .before .put-entries .ensures
-    ∙ rw (h .put-head .ensures) (placed-after (old e) (headBytes (a .combustion) (a .metering) (length (lines e))) (entriesBytes (lines e) (fractions e)) 0 entriesAt (omega arith) refl))
+    ∙ rw (h .put-head .ensures)
+    (placed-after (old s) (headBytes (k s .combustion) (k s .metering) (length (k s .lines))) (entriesBytes (k s .lines) (k s .fractions)) 0 entriesAt (omega arith) refl))
 
 pub put-record-spec : {M : Type 1} → statement M
 put-record-spec =
