@@ -1,5 +1,4 @@
 -- The conditions 2 to 6 are those of the bytes read; `fields_number` has their order.
-use mathlib.Core.Path.{_∙_}
 use native.Mathlib.Omega.{arith}
 use borrow.Author.Tests.{lt-ltb, le-ltb}
 use lib.ListN.{length}
