@@ -38,23 +38,23 @@ fn count_outside(n: usize) -> bool
     (n == 0) | (55 < n)
 }
 
-// 2 to 6 in their order.
-fn fields_number(two: bool, three: bool, four: bool, five: bool, six: bool) -> u8
-    ensures { λ r. ⌜ r ≡ firstOf (fieldsOrder two three four five six) ⌝ }
+// 2 to 6 in their order, from whether each holds.
+fn fields_number(mark: bool, version: bool, pair: bool, count: bool, length: bool) -> u8
+    ensures { λ r. ⌜ r ≡ firstOf (fieldsOrder mark version pair count length) ⌝ }
 {
-    if two {
+    if mark {
         return 2;
     }
-    if three {
+    if version {
         return 3;
     }
-    if four {
+    if pair {
         return 4;
     }
-    if five {
+    if count {
         return 5;
     }
-    if six {
+    if length {
         return 6;
     }
     0
@@ -67,13 +67,19 @@ pub fn head_refusal(bytes: &[u8]) -> u8
     if bytes.len() < 8 {
         return 1;
     }
-    let two = (bytes[0] != b'G') | (bytes[1] != b'C') | (bytes[2] != b'R');
-    let three = format::number_2(bytes, 3) != format::VERSION as u32;
-    let four = !pair_permitted(bytes[5], bytes[6]);
+    let mark_wrong = (bytes[0] != b'G') | (bytes[1] != b'C') | (bytes[2] != b'R');
+    let version_wrong = format::number_2(bytes, 3) != format::VERSION as u32;
+    let pair_wrong = !pair_permitted(bytes[5], bytes[6]);
     let n = bytes[7] as usize;
-    let five = count_outside(n);
-    let six = bytes.len() != format::record_length(n);
-    fields_number(two, three, four, five, six)
+    let count_wrong = count_outside(n);
+    let length_wrong = bytes.len() != format::record_length(n);
+    fields_number(
+        mark_wrong,
+        version_wrong,
+        pair_wrong,
+        count_wrong,
+        length_wrong,
+    )
 }
 
 // 7: the first line number outside 1 to 55, or not above the one before, ends the scan.
@@ -197,20 +203,20 @@ fn any_above(lines: &[u8], fractions: &[u32]) -> bool
     false
 }
 
-// 9 to 12 in their order.
-fn limits_number(nine: bool, ten: bool, eleven: bool, twelve: bool) -> u8
-    ensures { λ r. ⌜ r ≡ firstOf (limitsOrder nine ten eleven twelve) ⌝ }
+// 9 to 12 in their order, from whether each holds.
+fn limits_number(sum: bool, methane: bool, others: bool, water: bool) -> u8
+    ensures { λ r. ⌜ r ≡ firstOf (limitsOrder sum methane others water) ⌝ }
 {
-    if nine {
+    if sum {
         return 9;
     }
-    if ten {
+    if methane {
         return 10;
     }
-    if eleven {
+    if others {
         return 11;
     }
-    if twelve {
+    if water {
         return 12;
     }
     0
@@ -222,32 +228,32 @@ pub fn content_refusal(lines: &[u8], fractions: &[u32]) -> u8
     requires { ⌜ length (now fractions) ≤ 55 ⌝ }
     ensures { λ r. ⌜ r ≡ firstOf (contentOrder (now (lines .entry)) (now (fractions .entry))) ⌝ }
 {
-    let seven = lines_refusal(lines);
-    if seven != 0 {
-        return seven;
+    let lines_number = lines_refusal(lines);
+    if lines_number != 0 {
+        return lines_number;
     }
-    let eight = fractions_refusal(fractions);
-    if eight != 0 {
-        return eight;
+    let fractions_number = fractions_refusal(fractions);
+    if fractions_number != 0 {
+        return fractions_number;
     }
-    let nine = sum_outside(fractions);
-    let ten = fraction_for(METHANE, lines, fractions) < 500000;
-    let eleven = any_above(lines, fractions);
-    let twelve = limit_of(WATER) < fraction_for(WATER, lines, fractions);
-    limits_number(nine, ten, eleven, twelve)
+    let sum_wrong = sum_outside(fractions);
+    let methane_low = fraction_for(METHANE, lines, fractions) < 500000;
+    let other_high = any_above(lines, fractions);
+    let water_high = limit_of(WATER) < fraction_for(WATER, lines, fractions);
+    limits_number(sum_wrong, methane_low, other_high, water_high)
 }
 
-// 19, 4 and 5 in their order.
-fn lists_number(nineteen: bool, four: bool, five: bool) -> u8
-    ensures { λ r. ⌜ r ≡ firstOf (listsOrder nineteen four five) ⌝ }
+// 19, 4 and 5 in their order, from whether each holds.
+fn lists_number(lists: bool, pair: bool, count: bool) -> u8
+    ensures { λ r. ⌜ r ≡ firstOf (listsOrder lists pair count) ⌝ }
 {
-    if nineteen {
+    if lists {
         return 19;
     }
-    if four {
+    if pair {
         return 4;
     }
-    if five {
+    if count {
         return 5;
     }
     0

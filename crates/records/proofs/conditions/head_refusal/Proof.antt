@@ -8,20 +8,20 @@ use Rattle.records.proofs.conditions.head_refusal.Tie as tie
 returns : tie.Need-returns
 returns c = rw (lt-ltb (length (c .before .before .args .bytes .now)) 8 (omega arith))
 
-shared-slice-read-two : tie.Need-shared-slice-read-two
-shared-slice-read-two c = omega arith
+shared-slice-read-mark-wrong : tie.Need-shared-slice-read-mark-wrong
+shared-slice-read-mark-wrong c = omega arith
 
-shared-slice-read-two-2 : tie.Need-shared-slice-read-two-2
-shared-slice-read-two-2 c = omega arith
+shared-slice-read-mark-wrong-2 : tie.Need-shared-slice-read-mark-wrong-2
+shared-slice-read-mark-wrong-2 c = omega arith
 
-shared-slice-read-two-3 : tie.Need-shared-slice-read-two-3
-shared-slice-read-two-3 c = omega arith
+shared-slice-read-mark-wrong-3 : tie.Need-shared-slice-read-mark-wrong-3
+shared-slice-read-mark-wrong-3 c = omega arith
 
 number-2-requires : tie.Need-number-2-requires
 number-2-requires c κs = omega arith
 
-cast-three : tie.Need-cast-three
-cast-three c = omega arith
+cast-version-wrong : tie.Need-cast-version-wrong
+cast-version-wrong c = omega arith
 
 shared-slice-read-pair-permitted : tie.Need-shared-slice-read-pair-permitted
 shared-slice-read-pair-permitted c = omega arith
@@ -61,11 +61,11 @@ head-refusal-spec =
     tie.close
     (tie.spec
     returns
-    shared-slice-read-two
-    shared-slice-read-two-2
-    shared-slice-read-two-3
+    shared-slice-read-mark-wrong
+    shared-slice-read-mark-wrong-2
+    shared-slice-read-mark-wrong-3
     number-2-requires
-    cast-three
+    cast-version-wrong
     shared-slice-read-pair-permitted
     shared-slice-read-pair-permitted-2
     pair-permitted-requires
