@@ -10,7 +10,7 @@ use Rattle.records.specs.declared.Verdict.the-variants.{Accepted, Refuse
 use Rattle.records.specs.declared.Analysis.{Analysis}
 use Rattle.records.specs.declared.Reading.{Reading}
 use Rattle.records.specs.Order.{Outcome, firstOf}
-use Rattle.records.specs.Format.{Contents, Bytes, entriesAt, combustionIn, meteringIn, countIn, linesIn, fractionsIn, contentsIn, placed}
+use Rattle.records.specs.Format.{Contents, contents, Bytes, entriesAt, combustionIn, meteringIn, countIn, linesIn, fractionsIn, contentsIn, placed}
 use Rattle.records.specs.Conditions.{recordOrder, roomOrder}
 use Rattle.records.specs.Calls.{writingOf}
 use Rattle.records.specs.Answers.{Gives, Reads, Writes, Rewrites, padded, held, blank}
@@ -73,7 +73,7 @@ rewrites-refused bs old number e h =
 
 -- the contents that an analysis holds
 abbrev pub contentsOf : Analysis → Contents
-contentsOf a = record { combustion = a .combustion; metering = a .metering; lines = take (a .count) (a .lines); fractions = take (a .count) (a .fractions) }
+contentsOf a = contents (a .combustion) (a .metering) (take (a .count) (a .lines)) (take (a .count) (a .fractions))
 
 module _ (bs : List ℕ) (a : Analysis) (e : a ≡ held (contentsIn bs)) where
   pub lines-held : Prefix (a .lines) (a .count) (linesIn bs)

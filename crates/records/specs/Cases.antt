@@ -7,7 +7,7 @@ use lib.Dec.{eqb}
 use lib.ListN.{length, take, replicate}
 use Rattle.components.specs.Tests.{all}
 use Rattle.records.specs.Order.{Outcome, refused, accepted, decided}
-use Rattle.records.specs.Format.{Contents, mark, bytesOf}
+use Rattle.records.specs.Format.{Contents, contents, mark, bytesOf}
 use Rattle.records.specs.Calls.{readingOf, writingOf, rewritingOf}
 
 -- two lists are the same
@@ -41,9 +41,6 @@ caseHolds c =
     sameOutcome sameContents (readingOf (c .bytes)) (decided (c .number) (c .contents))
     && sameOutcome sameList (writingOf (c .contents) (replicate (length (c .bytes)) 0)) (decided (c .number) (c .bytes))
 
-abbrev pub gas : ℕ → ℕ → List ℕ → List ℕ → Contents
-gas c m ls xs = record { combustion = c; metering = m; lines = ls; fractions = xs }
-
 abbrev pub given : Contents → ℕ → Case
 given k n = record { contents = k; bytes = bytesOf k; number = n }
 
@@ -53,21 +50,21 @@ k2 = 0x47 ∷ 0x43 ∷ 0x52 ∷ 0x01 ∷ 0x00 ∷ 0x0F ∷ 0x0F ∷ 0x01 ∷ 0x0
 
 abbrev pub cases : List Case
 cases =
-    given (gas 15 15 (1 ∷ 2 ∷ 3 ∷ 4 ∷ 5 ∷ 6 ∷ 52 ∷ 54 ∷ []) (924700 ∷ 35000 ∷ 9800 ∷ 2200 ∷ 3400 ∷ 600 ∷ 17500 ∷ 6800 ∷ [])) 0  -- K1
-    ∷ record { contents = gas 15 15 (1 ∷ []) (1000000 ∷ []); bytes = k2; number = 0 }  -- K2
-    ∷ given (gas 15 15 (1 ∷ []) (999900 ∷ [])) 0  -- K3
-    ∷ given (gas 15 15 (1 ∷ []) (1000100 ∷ [])) 0
-    ∷ given (gas 15 15 (1 ∷ []) (999899 ∷ [])) 9
-    ∷ given (gas 15 15 (1 ∷ []) (1000101 ∷ [])) 9
-    ∷ given (gas 15 15 (1 ∷ 52 ∷ []) (700000 ∷ 300000 ∷ [])) 0  -- K4
-    ∷ given (gas 15 15 (1 ∷ 52 ∷ []) (699999 ∷ 300001 ∷ [])) 11
-    ∷ given (gas 15 15 (1 ∷ 2 ∷ 52 ∷ 54 ∷ []) (500000 ∷ 50000 ∷ 300000 ∷ 150000 ∷ [])) 0  -- K5
-    ∷ given (gas 15 15 (1 ∷ 2 ∷ 52 ∷ 54 ∷ []) (499999 ∷ 50001 ∷ 300000 ∷ 150000 ∷ [])) 10
-    ∷ given (gas 15 15 (1 ∷ 42 ∷ []) (999800 ∷ 200 ∷ [])) 0  -- K6
-    ∷ given (gas 15 15 (1 ∷ 42 ∷ []) (999799 ∷ 201 ∷ [])) 12
-    ∷ given (gas 15 15 (1 ∷ 55 ∷ []) (950000 ∷ 50000 ∷ [])) 0  -- K7
-    ∷ given (gas 25 15 (1 ∷ []) (1000000 ∷ [])) 4  -- K8
-    ∷ given (gas 15 15 (1 ∷ 1 ∷ []) (500000 ∷ 500000 ∷ [])) 7
+    given (contents 15 15 (1 ∷ 2 ∷ 3 ∷ 4 ∷ 5 ∷ 6 ∷ 52 ∷ 54 ∷ []) (924700 ∷ 35000 ∷ 9800 ∷ 2200 ∷ 3400 ∷ 600 ∷ 17500 ∷ 6800 ∷ [])) 0  -- K1
+    ∷ record { contents = contents 15 15 (1 ∷ []) (1000000 ∷ []); bytes = k2; number = 0 }  -- K2
+    ∷ given (contents 15 15 (1 ∷ []) (999900 ∷ [])) 0  -- K3
+    ∷ given (contents 15 15 (1 ∷ []) (1000100 ∷ [])) 0
+    ∷ given (contents 15 15 (1 ∷ []) (999899 ∷ [])) 9
+    ∷ given (contents 15 15 (1 ∷ []) (1000101 ∷ [])) 9
+    ∷ given (contents 15 15 (1 ∷ 52 ∷ []) (700000 ∷ 300000 ∷ [])) 0  -- K4
+    ∷ given (contents 15 15 (1 ∷ 52 ∷ []) (699999 ∷ 300001 ∷ [])) 11
+    ∷ given (contents 15 15 (1 ∷ 2 ∷ 52 ∷ 54 ∷ []) (500000 ∷ 50000 ∷ 300000 ∷ 150000 ∷ [])) 0  -- K5
+    ∷ given (contents 15 15 (1 ∷ 2 ∷ 52 ∷ 54 ∷ []) (499999 ∷ 50001 ∷ 300000 ∷ 150000 ∷ [])) 10
+    ∷ given (contents 15 15 (1 ∷ 42 ∷ []) (999800 ∷ 200 ∷ [])) 0  -- K6
+    ∷ given (contents 15 15 (1 ∷ 42 ∷ []) (999799 ∷ 201 ∷ [])) 12
+    ∷ given (contents 15 15 (1 ∷ 55 ∷ []) (950000 ∷ 50000 ∷ [])) 0  -- K7
+    ∷ given (contents 25 15 (1 ∷ []) (1000000 ∷ [])) 4  -- K8
+    ∷ given (contents 15 15 (1 ∷ 1 ∷ []) (500000 ∷ 500000 ∷ [])) 7
     ∷ []
 
 -- n numbers upward from one
@@ -81,7 +78,7 @@ allLines = upFrom 55 1
 
 -- a gas with each of them, 1,000,000 in all
 abbrev pub fullGas : Contents
-fullGas = gas 25 20 allLines (973300 ∷ replicate 40 500 ++ (200 ∷ replicate 13 500))
+fullGas = contents 25 20 allLines (973300 ∷ replicate 40 500 ++ (200 ∷ replicate 13 500))
 
 -- the first 8 bytes of a record at 15/15: mark, low and high byte of the version, count
 abbrev pub head : List ℕ → ℕ → ℕ → ℕ → List ℕ
@@ -110,30 +107,30 @@ damaged =
     ∷ (take 12 k2, 6)
     ∷ (k2 ++ (0 ∷ []), 6)  -- a byte after the last entry
     ∷ (k2 ++ entry, 6)
-    ∷ (bytesOf (gas 15 15 (0 ∷ []) (1000000 ∷ [])), 7)
-    ∷ (bytesOf (gas 15 15 (1 ∷ 56 ∷ []) (999999 ∷ 1 ∷ [])), 7)
-    ∷ (bytesOf (gas 15 15 (1 ∷ 3 ∷ 2 ∷ []) (999998 ∷ 1 ∷ 1 ∷ [])), 7)
-    ∷ (bytesOf (gas 15 15 (1 ∷ 2 ∷ 2 ∷ []) (0 ∷ 999999 ∷ 1 ∷ [])), 7)  -- 7 over all entries before 8
-    ∷ (bytesOf (gas 15 15 (1 ∷ 2 ∷ []) (1000000 ∷ 0 ∷ [])), 8)
-    ∷ (bytesOf (gas 15 15 (1 ∷ 2 ∷ []) (1 ∷ 0 ∷ [])), 8)  -- 8 before 9
-    ∷ (bytesOf (gas 15 15 allLines (replicate 55 4294967295)), 9)
-    ∷ (bytesOf (gas 15 15 (1 ∷ 2 ∷ []) (4294967295 ∷ 1000001 ∷ [])), 9)  -- 2^32 + 1,000,000 in all
-    ∷ (bytesOf (gas 15 15 (1 ∷ 52 ∷ []) (600101 ∷ 400000 ∷ [])), 9)  -- 9 before 11
-    ∷ (bytesOf (gas 15 15 (2 ∷ []) (1000000 ∷ [])), 10)  -- no methane; 10 before 11
-    ∷ (bytesOf (gas 15 15 (1 ∷ 42 ∷ 55 ∷ []) (949798 ∷ 201 ∷ 50001 ∷ [])), 11)  -- 11 before 12
+    ∷ (bytesOf (contents 15 15 (0 ∷ []) (1000000 ∷ [])), 7)
+    ∷ (bytesOf (contents 15 15 (1 ∷ 56 ∷ []) (999999 ∷ 1 ∷ [])), 7)
+    ∷ (bytesOf (contents 15 15 (1 ∷ 3 ∷ 2 ∷ []) (999998 ∷ 1 ∷ 1 ∷ [])), 7)
+    ∷ (bytesOf (contents 15 15 (1 ∷ 2 ∷ 2 ∷ []) (0 ∷ 999999 ∷ 1 ∷ [])), 7)  -- 7 over all entries before 8
+    ∷ (bytesOf (contents 15 15 (1 ∷ 2 ∷ []) (1000000 ∷ 0 ∷ [])), 8)
+    ∷ (bytesOf (contents 15 15 (1 ∷ 2 ∷ []) (1 ∷ 0 ∷ [])), 8)  -- 8 before 9
+    ∷ (bytesOf (contents 15 15 allLines (replicate 55 4294967295)), 9)
+    ∷ (bytesOf (contents 15 15 (1 ∷ 2 ∷ []) (4294967295 ∷ 1000001 ∷ [])), 9)  -- 2^32 + 1,000,000 in all
+    ∷ (bytesOf (contents 15 15 (1 ∷ 52 ∷ []) (600101 ∷ 400000 ∷ [])), 9)  -- 9 before 11
+    ∷ (bytesOf (contents 15 15 (2 ∷ []) (1000000 ∷ [])), 10)  -- no methane; 10 before 11
+    ∷ (bytesOf (contents 15 15 (1 ∷ 42 ∷ 55 ∷ []) (949798 ∷ 201 ∷ 50001 ∷ [])), 11)  -- 11 before 12
     ∷ []
 
 -- contents, the size of a buffer, and the number that refuses the writing
 abbrev pub refusedWrites : List (Contents × (ℕ × ℕ))
 refusedWrites =
-    (gas 15 15 (1 ∷ 2 ∷ []) (1000000 ∷ []), (300, 19))
-    ∷ (gas 1 1 (1 ∷ []) [], (0, 19))  -- 19 before 4
-    ∷ (gas 25 15 [] [], (0, 4))  -- 4 before 5
-    ∷ (gas 15 15 [] [], (300, 5))
-    ∷ (gas 15 15 (upFrom 56 1) (replicate 56 1), (300, 5))
-    ∷ (gas 15 15 (1 ∷ []) (999899 ∷ []), (0, 9))  -- 9 before 20
-    ∷ (gas 15 15 (1 ∷ []) (1000000 ∷ []), (12, 20))  -- a byte short
-    ∷ (gas 15 15 (1 ∷ []) (1000000 ∷ []), (0, 20))
+    (contents 15 15 (1 ∷ 2 ∷ []) (1000000 ∷ []), (300, 19))
+    ∷ (contents 1 1 (1 ∷ []) [], (0, 19))  -- 19 before 4
+    ∷ (contents 25 15 [] [], (0, 4))  -- 4 before 5
+    ∷ (contents 15 15 [] [], (300, 5))
+    ∷ (contents 15 15 (upFrom 56 1) (replicate 56 1), (300, 5))
+    ∷ (contents 15 15 (1 ∷ []) (999899 ∷ []), (0, 9))  -- 9 before 20
+    ∷ (contents 15 15 (1 ∷ []) (1000000 ∷ []), (12, 20))  -- a byte short
+    ∷ (contents 15 15 (1 ∷ []) (1000000 ∷ []), (0, 20))
     ∷ []
 
 -- buffers, and what writing K2 and rewriting K2 give: only the first 13 bytes change
@@ -160,7 +157,7 @@ abbrev pub BuffersHold : Type 0
 BuffersHold =
     all
     (λ (c : List ℕ × Outcome (List ℕ)).
-    sameOutcome sameList (writingOf (gas 15 15 (1 ∷ []) (1000000 ∷ [])) (c .0)) (c .1) && sameOutcome sameList (rewritingOf k2 (c .0)) (c .1))
+    sameOutcome sameList (writingOf (contents 15 15 (1 ∷ []) (1000000 ∷ [])) (c .0)) (c .1) && sameOutcome sameList (rewritingOf k2 (c .0)) (c .1))
     buffers ≡ true
 
 -- a record that is refused is not rewritten, whatever the buffer

@@ -10,6 +10,9 @@ pub record Contents : Type 0 where
   pub lines : List ℕ
   pub fractions : List ℕ
 
+abbrev pub contents : ℕ → ℕ → List ℕ → List ℕ → Contents
+contents c m ls xs = record { combustion = c; metering = m; lines = ls; fractions = xs }
+
 -- bytes 0 to 2: mark GCR
 abbrev pub mark : List ℕ
 mark = 71 ∷ 67 ∷ 82 ∷ []
@@ -60,7 +63,7 @@ fractionsIn bs = fractionsOf (countIn bs) (drop entriesAt bs)
 
 -- what a record holds
 abbrev pub contentsIn : List ℕ → Contents
-contentsIn bs = record { combustion = combustionIn bs; metering = meteringIn bs; lines = linesIn bs; fractions = fractionsIn bs }
+contentsIn bs = contents (combustionIn bs) (meteringIn bs) (linesIn bs) (fractionsIn bs)
 
 -- the bytes of an entry, of the entries, and of a record
 abbrev pub entryBytes : ℕ → ℕ → List ℕ

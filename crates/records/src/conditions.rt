@@ -5,6 +5,7 @@ ghost use Prim.Native.Nat.{_^_, _≤_, _<_};
 ghost use lib.ListN.{length};
 ghost use Rattle.components.specs.Composition.{total, fractionFor};
 ghost use Rattle.records.specs.Order.{firstOf};
+ghost use Rattle.records.specs.Format.{contents};
 ghost use Rattle.records.specs.Conditions.{permitted, limitOf, countOutside, lineBreaks, fractionZero, sumOutside, aboveLimit, anyAbove};
 ghost use Rattle.records.specs.Conditions.{fieldsOrder, limitsOrder, listsOrder, headOrder, contentOrder, writerOrder};
 use super::format;
@@ -267,7 +268,7 @@ pub fn writer_refusal(
     fractions: &[u32],
     room: usize,
 ) -> u8
-    ensures { λ r. ⌜ r ≡ firstOf (writerOrder (record { combustion = combustion; metering = metering; lines = now (lines .entry); fractions = now (fractions .entry) }) room) ⌝ }
+    ensures { λ r. ⌜ r ≡ firstOf (writerOrder (contents combustion metering (now (lines .entry)) (now (fractions .entry))) room) ⌝ }
 {
     let n = lines.len();
     let start = lists_number(

@@ -2,7 +2,7 @@
 ghost use mathlib.Core.Path.{_≡_};
 ghost use Prim.Native.Nat.{_+_, _≤_, _<_};
 ghost use lib.ListN.{length, drop};
-ghost use Rattle.records.specs.Format.{entriesAt, recordLength, number2, number4, linesOf, fractionsOf, headBytes, entryBytes, entriesBytes, placed};
+ghost use Rattle.records.specs.Format.{contents, entriesAt, recordLength, number2, number4, linesOf, fractionsOf, headBytes, entryBytes, entriesBytes, placed};
 ghost use Rattle.records.specs.Order.{firstOf, otherwise};
 ghost use Rattle.records.specs.Conditions.{writerOrder};
 ghost use Rattle.records.specs.Calls.{writingOf};
@@ -118,8 +118,8 @@ pub fn put_record(
     fractions: &[u32],
     out: &mut [u8],
 )
-    requires { ⌜ refusal ≡ firstOf (writerOrder (record { combustion = combustion; metering = metering; lines = now lines; fractions = now fractions }) (length (now out))) ⌝ }
-    ensures { λ _. ⌜ now (out .exit) ≡ otherwise (now (out .entry)) (writingOf (record { combustion = combustion; metering = metering; lines = now (lines .entry); fractions = now (fractions .entry) }) (now (out .entry))) ⌝ }
+    requires { ⌜ refusal ≡ firstOf (writerOrder (contents combustion metering (now lines) (now fractions)) (length (now out))) ⌝ }
+    ensures { λ _. ⌜ now (out .exit) ≡ otherwise (now (out .entry)) (writingOf (contents combustion metering (now (lines .entry)) (now (fractions .entry))) (now (out .entry))) ⌝ }
 {
     if refusal != 0 {
         return;

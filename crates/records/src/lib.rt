@@ -2,6 +2,7 @@
 // buffer, gets its answer or the one number of its refusal.
 ghost use mathlib.Core.Path.{_≡_};
 ghost use Rattle.records.specs.Order.{firstOf};
+ghost use Rattle.records.specs.Format.{contents};
 ghost use Rattle.records.specs.Conditions.{headOrder};
 ghost use Rattle.records.specs.Answers.{Reads, Writes, Rewrites, verdictOf, blank};
 
@@ -98,7 +99,7 @@ pub fn write(
     fractions: &[u32],
     out: &mut [u8],
 ) -> Verdict
-    ensures { λ r. ⌜ Writes (record { combustion = combustion; metering = metering; lines = now (lines .entry); fractions = now (fractions .entry) }) (now (out .entry)) (now (out .exit)) r ⌝ }
+    ensures { λ r. ⌜ Writes (contents combustion metering (now (lines .entry)) (now (fractions .entry))) (now (out .entry)) (now (out .exit)) r ⌝ }
 {
     let refusal = conditions::writer_refusal(combustion, metering, lines, fractions, out.len());
     format::put_record(refusal, combustion, metering, lines, fractions, out);

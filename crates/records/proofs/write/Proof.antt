@@ -5,7 +5,7 @@ use native.Mathlib.Omega.{arith}
 use borrow.Author.Needs.{needs}
 use lib.ListN.{length}
 use Rattle.records.specs.Order.{firstOf}
-use Rattle.records.specs.Format.{Contents, bytesOf, placed}
+use Rattle.records.specs.Format.{Contents, contents, bytesOf, placed}
 use Rattle.records.specs.Conditions.{writerOrder}
 use Rattle.records.proofs.OrderLaws.{gives}
 use Rattle.records.proofs.write.Statement.{statement}
@@ -16,13 +16,7 @@ module _ (c : tie.After-writer-refusal) where
   begin = c .before .before .before .before
 
   abbrev k : Contents
-  k =
-      record {
-        combustion = begin .args .combustion;
-        metering = begin .args .metering;
-        lines = begin .args .lines .now;
-        fractions = begin .args .fractions .now;
-      }
+  k = contents (begin .args .combustion) (begin .args .metering) (begin .args .lines .now) (begin .args .fractions .now)
 
   abbrev old : List ℕ
   old = begin .args .out .now

@@ -6,7 +6,7 @@ use native.Mathlib.Omega.{arith}
 use borrow.Author.Tests.{lt-ltb, le-ltb}
 use lib.ListN.{length}
 use Rattle.records.specs.Order.{firstOf}
-use Rattle.records.specs.Format.{Contents}
+use Rattle.records.specs.Format.{Contents, contents}
 use Rattle.records.specs.Conditions.{startOrder, contentOrder, roomOrder, writerOrder}
 use Rattle.records.proofs.OrderLaws.{stops, passes}
 use Rattle.records.proofs.Heads.{Start, start}
@@ -18,13 +18,7 @@ module _ (c : tie.After-lists-number) where
   begin = c .before .before .before .before .before
 
   abbrev k : Contents
-  k =
-      record {
-        combustion = begin .args .combustion;
-        metering = begin .args .metering;
-        lines = begin .args .lines .now;
-        fractions = begin .args .fractions .now;
-      }
+  k = contents (begin .args .combustion) (begin .args .metering) (begin .args .lines .now) (begin .args .fractions .now)
 
   abbrev room : ℕ
   room = begin .args .room

@@ -5,7 +5,7 @@ use Prim.Native.Nat.{ℕ}
 use native.Mathlib.Omega.{arith}
 use borrow.Author.Needs.{needs}
 use lib.ListN.{length}
-use Rattle.records.specs.Format.{Contents, entriesAt, headBytes, entriesBytes, bytesOf, placed}
+use Rattle.records.specs.Format.{Contents, contents, entriesAt, headBytes, entriesBytes, bytesOf, placed}
 use Rattle.records.proofs.OrderLaws.{beside}
 use Rattle.records.proofs.Heads.{Room}
 use Rattle.records.proofs.Placing.{placed-after}
@@ -15,7 +15,7 @@ use Rattle.records.proofs.format.put_record.Tie as tie
 
 module _ (c : tie.Start) where
   abbrev k : Contents
-  k = record { combustion = c .args .combustion; metering = c .args .metering; lines = c .args .lines .now; fractions = c .args .fractions .now }
+  k = contents (c .args .combustion) (c .args .metering) (c .args .lines .now) (c .args .fractions .now)
 
   abbrev old : List ℕ
   old = c .args .out .now
