@@ -10,6 +10,7 @@ use Rattle.records.specs.Format.{Contents, recordLength, combustionIn, m
 use Rattle.records.specs.Conditions.{permitted, markDiffers, versionDiffers, countOutside, headOrder, startOrder}
 use Rattle.records.proofs.OrderLaws.{unmet, neither}
 
+-- where 5 does not hold
 pub record Count (n : ℕ) : Type 0 where
   pub some : n ≡ 0 → ⊥
   pub few : n ≤ 55
@@ -17,6 +18,7 @@ pub record Count (n : ℕ) : Type 0 where
 count : (n : ℕ) → countOutside n ≡ false → Count n
 count n h = let e = neither _ _ h in record { some = eqb-false _ _ (e .0); few = ltb-false _ _ (e .1) }
 
+-- where none of 1 to 6 holds
 pub record Head (bs : List ℕ) : Type 0 where
   pub long : 8 ≤ length bs
   pub mark : markDiffers bs ≡ false
@@ -37,12 +39,13 @@ head bs e =
       exact = eqb-true _ _ (not-false _ (h 6));
     }
 
--- as many fractions as line numbers, at most 55, and room for the record
+-- what the writer needs: as many fractions as line numbers, at most 55, and room for the record
 pub record Room (k : Contents) (room : ℕ) : Type 0 where
   pub same : length (k .lines) ≡ length (k .fractions)
   pub few : length (k .lines) ≤ 55
   pub fits : recordLength (length (k .lines)) ≤ room
 
+-- where none of 19, 4 and 5 holds
 pub record Start (k : Contents) : Type 0 where
   pub same : length (k .lines) ≡ length (k .fractions)
   pub pair : permitted (k .combustion) (k .metering) ≡ true

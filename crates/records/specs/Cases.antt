@@ -41,6 +41,7 @@ caseHolds c =
     sameOutcome sameContents (readingOf (c .bytes)) (decided (c .number) (c .contents))
     && sameOutcome sameList (writingOf (c .contents) (replicate (length (c .bytes)) 0)) (decided (c .number) (c .bytes))
 
+-- contents with the bytes that the format gives them
 abbrev pub given : Contents → ℕ → Case
 given k n = record { contents = k; bytes = bytesOf k; number = n }
 
@@ -48,6 +49,7 @@ given k n = record { contents = k; bytes = bytesOf k; number = n }
 abbrev pub k2 : List ℕ
 k2 = 0x47 ∷ 0x43 ∷ 0x52 ∷ 0x01 ∷ 0x00 ∷ 0x0F ∷ 0x0F ∷ 0x01 ∷ 0x01 ∷ 0x40 ∷ 0x42 ∷ 0x0F ∷ 0x00 ∷ []
 
+-- K3 to K7, and the second of K8, name no pair: they stand at 15/15
 abbrev pub cases : List Case
 cases =
     given (contents 15 15 (1 ∷ 2 ∷ 3 ∷ 4 ∷ 5 ∷ 6 ∷ 52 ∷ 54 ∷ []) (924700 ∷ 35000 ∷ 9800 ∷ 2200 ∷ 3400 ∷ 600 ∷ 17500 ∷ 6800 ∷ [])) 0  -- K1
@@ -160,6 +162,6 @@ BuffersHold =
     sameOutcome sameList (writingOf (contents 15 15 (1 ∷ []) (1000000 ∷ [])) (c .0)) (c .1) && sameOutcome sameList (rewritingOf k2 (c .0)) (c .1))
     buffers ≡ true
 
--- a record that is refused is not rewritten, whatever the buffer
+-- rewritten into an empty buffer, the same bytes are refused by the same numbers: 1 to 12 come before 20
 abbrev pub DamagedNotRewritten : Type 0
 DamagedNotRewritten = all (λ (c : List ℕ × ℕ). sameOutcome sameList (rewritingOf (c .0) []) (refused (c .1))) damaged ≡ true

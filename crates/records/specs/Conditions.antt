@@ -19,6 +19,7 @@ permitted c m =
     || eqb c 20 && eqb m 20
     || eqb c 25 && eqb m 20
 
+-- line numbers
 abbrev pub methane : ℕ
 methane = 1
 
@@ -77,7 +78,7 @@ fractionZero (x ∷ xs) = eqb x 0 || fractionZero xs
 abbrev pub sumOutside : List ℕ → Bool
 sumOutside xs = ltb (total xs) 999900 || ltb 1000100 (total xs)
 
--- 10: methane too low (500,000 is a house limit)
+-- 10: methane too low; 500,000 is a house limit, a term of document 01
 abbrev pub methaneLow : List ℕ → List ℕ → Bool
 methaneLow ls xs = ltb (fractionFor methane ls xs) 500000
 

@@ -10,6 +10,7 @@ pub record Contents : Type 0 where
   pub lines : List ℕ
   pub fractions : List ℕ
 
+-- contents of a pair, line numbers and fractions
 abbrev pub contents : ℕ → ℕ → List ℕ → List ℕ → Contents
 contents c m ls xs = record { combustion = c; metering = m; lines = ls; fractions = xs }
 
