@@ -1,7 +1,7 @@
 // The bytes of a record: its entries read, its head and entries written.
 ghost use mathlib.Core.Path.{_≡_};
 ghost use Prim.Native.Nat.{_+_, _≤_, _<_};
-ghost use lib.ListN.{length, drop};
+ghost use lib.ListN.{length, drop, replicate};
 ghost use Rattle.records.specs.Format.{contents, entriesAt, recordLength, number2, number4, linesOf, fractionsOf, headBytes, entryBytes, entriesBytes, placed};
 ghost use Rattle.records.specs.Order.{firstOf, otherwise};
 ghost use Rattle.records.specs.Conditions.{writerOrder};
@@ -47,26 +47,18 @@ fn number_4(bytes: &[u8], at: usize) -> u32
         + 16777216 * wide(bytes[at + 3])
 }
 
-// Line numbers and fractions of a record's entries, and 0 past them.
-pub struct Entries {
-    pub lines: [u8; 55],
-    pub fractions: [u32; 55],
-}
-
-// The n entries of a record.
-pub fn read_entries(bytes: &[u8], n: usize) -> Entries
+// The n entries of a record into two arrays that hold 0.
+pub fn read_entries(bytes: &[u8], n: usize, lines: &mut [u8; 55], fractions: &mut [u32; 55])
     requires { ⌜ (n ≤ 55) × (recordLength n ≤ length (now bytes)) ⌝ }
-    ensures { λ r. ⌜ (r .lines ≡ padded (linesOf n (drop entriesAt (now (bytes .entry))))) × (r .fractions ≡ padded (fractionsOf n (drop entriesAt (now (bytes .entry))))) ⌝ }
+    requires { ⌜ (now lines ≡ replicate 55 0) × (now fractions ≡ replicate 55 0) ⌝ }
+    ensures { λ _. ⌜ (now (lines .exit) ≡ padded (linesOf n (drop entriesAt (now (bytes .entry))))) × (now (fractions .exit) ≡ padded (fractionsOf n (drop entriesAt (now (bytes .entry))))) ⌝ }
 {
-    let mut lines = [0u8; 55];
-    let mut fractions = [0u32; 55];
     let mut k = 0;
     while k < n {
         lines[k] = bytes[ENTRIES_AT + 5 * k];
         fractions[k] = number_4(bytes, ENTRIES_AT + 5 * k + 1);
         k += 1;
     }
-    Entries { lines, fractions }
 }
 
 // The bytes of a record before its entries.

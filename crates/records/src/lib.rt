@@ -72,9 +72,9 @@ fn read_content(bytes: &[u8]) -> Reading
     ensures { λ r. ⌜ Reads (now (bytes .entry)) r ⌝ }
 {
     let n = bytes[7] as usize;
-    let entries = format::read_entries(bytes, n);
-    let lines = entries.lines;
-    let fractions = entries.fractions;
+    let mut lines = [0u8; 55];
+    let mut fractions = [0u32; 55];
+    format::read_entries(bytes, n, &mut lines, &mut fractions);
     let content = conditions::content_refusal(&lines[..n], &fractions[..n]);
     if content != 0 {
         return refused(content);

@@ -18,21 +18,21 @@ headed c = head (c .args .bytes .now) (c .pre)
 -- what is lent to the content's conditions
 module _ (c : tie.After-read-entries) where
   abbrev begin : tie.Start
-  begin = c .before .before .before
+  begin = c .before .before .before .before .before
 
   abbrev bytes : List ℕ
   bytes = begin .args .bytes .now
 
-  lines : Prefix (c .read-entries .result .lines) (countIn bytes) (linesIn bytes)
+  lines : Prefix (c .read-entries .last .1 .1 .0) (countIn bytes) (linesIn bytes)
   lines = lines-prefix bytes _ _ (c .read-entries .ensures .0) (c .read-entries .ensures .1)
 
-  fractions : Prefix (c .read-entries .result .fractions) (countIn bytes) (fractionsIn bytes)
+  fractions : Prefix (c .read-entries .last .1 .1 .1 .0) (countIn bytes) (fractionsIn bytes)
   fractions = fractions-prefix bytes _ _ (c .read-entries .ensures .0) (c .read-entries .ensures .1)
 
 -- after them, the order of the record decides
-decides : (c : tie.After-content-refusal) → c .content-refusal .result ≡ firstOf (recordOrder (bytes (c .before .before .before .before .before)))
+decides : (c : tie.After-content-refusal) → c .content-refusal .result ≡ firstOf (recordOrder (bytes (c .before .before .before)))
 decides c =
-    let e = c .before .before .before .before .before in
+    let e = c .before .before .before in
     passes (headOrder (bytes e)) (contentOrder (linesIn (bytes e)) (fractionsIn (bytes e))) tt refl (begin e .pre)
     (c .content-refusal .ensures ∙ rw (lines e .is, fractions e .is))
 
@@ -43,23 +43,25 @@ cast-n : tie.Need-cast-n
 cast-n c = omega (arith, c .shared-slice-known2 .given 7)
 
 read-entries-requires : tie.Need-read-entries-requires
-read-entries-requires c κs = (headed (c .before .before) .entries .few, omega (arith, headed (c .before .before) .exact))
+read-entries-requires c κs =
+    let h = headed (c .before .before .before .before) in
+    ((h .entries .few, omega (arith, h .exact)), (refl, refl))
 
 array-share-prefix-lines : tie.Need-array-share-prefix-lines
-array-share-prefix-lines c = lines (c .before .before) .fits
+array-share-prefix-lines c = lines c .fits
 
 slice-aggregate-content-refusal : tie.Need-slice-aggregate-content-refusal
-slice-aggregate-content-refusal c = sym (lines (c .before .before .before) .count)
+slice-aggregate-content-refusal c = sym (lines (c .before) .count)
 
 array-share-prefix-fractions : tie.Need-array-share-prefix-fractions
-array-share-prefix-fractions c = fractions (c .before .before .before) .fits
+array-share-prefix-fractions c = fractions (c .before) .fits
 
 slice-aggregate-content-refusal-2 : tie.Need-slice-aggregate-content-refusal-2
-slice-aggregate-content-refusal-2 c = sym (fractions (c .before .before .before .before) .count)
+slice-aggregate-content-refusal-2 c = sym (fractions (c .before .before) .count)
 
 content-refusal-requires : tie.Need-content-refusal-requires
 content-refusal-requires c κs =
-    let e = c .before .before .before .before in
+    let e = c .before .before in
     (lines e .count ∙ sym (fractions e .count), rw (fractions e .count) (headed (begin e) .entries .few))
 
 refused-requires : tie.Need-refused-requires
@@ -68,18 +70,18 @@ refused-requires c κs = tt
 returns : tie.Need-returns
 returns c =
     let d = c .before .before in
-    reads-refused (bytes (d .before .before .before .before .before)) _ _ (decides d) (λ z. omega arith) (c .refused .ensures .0) (c .refused .ensures .1)
+    reads-refused (bytes (d .before .before .before)) _ _ (decides d) (λ z. omega arith) (c .refused .ensures .0) (c .refused .ensures .1)
 
-shared-slice-read-t8 : tie.Need-shared-slice-read-t8
-shared-slice-read-t8 c = omega (arith, headed (begin (c .before .before .before .before .before .before .before)) .long)
+shared-slice-read-t7 : tie.Need-shared-slice-read-t7
+shared-slice-read-t7 c = omega (arith, headed (begin (c .before .before .before .before .before)) .long)
 
-shared-slice-read-t17 : tie.Need-shared-slice-read-t17
-shared-slice-read-t17 c = omega (arith, headed (begin (c .before .before .before .before .before .before .before .before)) .long)
+shared-slice-read-t19 : tie.Need-shared-slice-read-t19
+shared-slice-read-t19 c = omega (arith, headed (begin (c .before .before .before .before .before .before)) .long)
 
 returns-2 : tie.Need-returns-2
 returns-2 c =
     let d = c .before .before .before in
-    let e = d .before .before .before .before .before in
+    let e = d .before .before .before in
     reads-accepted (bytes e) _ _ (e .read-entries .ensures .0) (e .read-entries .ensures .1) (sym (decides d) ∙ c .before .before .if1 .left)
 
 pub read-content-spec : {M : Type 1} → statement M
@@ -96,6 +98,6 @@ read-content-spec =
     content-refusal-requires
     refused-requires
     returns
-    shared-slice-read-t8
-    shared-slice-read-t17
+    shared-slice-read-t7
+    shared-slice-read-t19
     returns-2)

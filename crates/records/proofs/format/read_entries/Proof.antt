@@ -1,5 +1,5 @@
 -- The loop keeps that both arrays are filled with the first k entries.
-use mathlib.Core.Path.{_≡_, refl, sym, _∙_}
+use mathlib.Core.Path.{_≡_, sym, _∙_}
 use mathlib.Core.List.{List}
 use Prim.Native.Nat.{ℕ, _-_, _≤_}
 use native.Mathlib.Omega.{arith}
@@ -19,7 +19,7 @@ abbrev μ-loop : tie.MeasureT-loop
 μ-loop bytes n lines₀ fractions₀ k₀ lines fractions k = n - k
 
 loop-holds : tie.Need-loop-holds Inv-loop μ-loop
-loop-holds c = (omega arith, refl, refl)
+loop-holds c = (omega arith, c .before .pre .1 .0, c .before .pre .1 .1)
 
 mul-lines : tie.Need-mul-lines Inv-loop μ-loop
 mul-lines c = omega arith
@@ -30,8 +30,8 @@ add-lines c = omega arith
 shared-slice-read-lines : tie.Need-shared-slice-read-lines Inv-loop μ-loop
 shared-slice-read-lines c = omega arith
 
-array-write-lines : tie.Need-array-write-lines Inv-loop μ-loop
-array-write-lines c = omega arith
+element-write-lines : tie.Need-element-write-lines Inv-loop μ-loop
+element-write-lines c = omega arith
 
 mul-number-4 : tie.Need-mul-number-4 Inv-loop μ-loop
 mul-number-4 c = omega arith
@@ -48,8 +48,8 @@ number-4-requires c κs = omega arith
 mul-fractions : tie.Need-mul-fractions Inv-loop μ-loop
 mul-fractions c = omega arith
 
-array-write-fractions : tie.Need-array-write-fractions Inv-loop μ-loop
-array-write-fractions c = omega arith
+element-write-fractions : tie.Need-element-write-fractions Inv-loop μ-loop
+element-write-fractions c = omega arith
 
 add-k : tie.Need-add-k Inv-loop μ-loop
 add-k c = omega arith
@@ -86,13 +86,13 @@ read-entries-spec =
     mul-lines
     add-lines
     shared-slice-read-lines
-    array-write-lines
+    element-write-lines
     mul-number-4
     add-number-4
     add-number-4-2
     number-4-requires
     mul-fractions
-    array-write-fractions
+    element-write-fractions
     add-k
     loop-less
     loop-again
