@@ -8,6 +8,7 @@ ghost use Rattle.records.specs.Conditions.{writerOrder};
 ghost use Rattle.records.specs.Calls.{writingOf};
 ghost use Rattle.records.specs.Answers.{padded};
 
+// The version of a record.
 pub const VERSION: u8 = 1;
 
 // Where the entries begin.
@@ -62,7 +63,7 @@ pub fn read_entries(bytes: &[u8], n: usize, lines: &mut [u8; 55], fractions: &mu
 }
 
 // The bytes of a record before its entries.
-pub fn put_head(out: &mut [u8], combustion: u8, metering: u8, n: u8)
+fn put_head(out: &mut [u8], combustion: u8, metering: u8, n: u8)
     requires { ⌜ entriesAt ≤ length (now out) ⌝ }
     ensures { λ _. ⌜ now (out .exit) ≡ placed (now (out .entry)) 0 (headBytes combustion metering n) ⌝ }
 {
@@ -89,7 +90,7 @@ fn put_entry(out: &mut [u8], at: usize, line: u8, fraction: u32)
 }
 
 // The entries, where they begin.
-pub fn put_entries(out: &mut [u8], lines: &[u8], fractions: &[u32])
+fn put_entries(out: &mut [u8], lines: &[u8], fractions: &[u32])
     requires { ⌜ length (now lines) ≡ length (now fractions) ⌝ }
     requires { ⌜ recordLength (length (now lines)) ≤ length (now out) ⌝ }
     ensures { λ _. ⌜ now (out .exit) ≡ placed (now (out .entry)) entriesAt (entriesBytes (now (lines .entry)) (now (fractions .entry))) ⌝ }
