@@ -1,4 +1,4 @@
--- What is known of a record, and of contents to be written, where the first conditions of their orders do not hold.
+-- What is known of a record's head, and of contents to be written, where conditions of their orders do not hold.
 use mathlib.Core.Path.{_≡_}
 use mathlib.Core.Bool.{true, false}
 use mathlib.Core.List.{List}
@@ -7,7 +7,7 @@ use borrow.Author.Tests.{ltb-false, not-false, eqb-true, eqb-false}
 use lib.ListN.{length}
 use Rattle.records.specs.Order.{firstOf}
 use Rattle.records.specs.Format.{Contents, recordLength, combustionIn, meteringIn, countIn}
-use Rattle.records.specs.Conditions.{permitted, markDiffers, versionDiffers, countOutside, headOrder, startOrder}
+use Rattle.records.specs.Conditions.{permitted, markDiffers, versionDiffers, countOutside, headOrder, startOrder, writerOrder}
 use Rattle.records.proofs.OrderLaws.{unmet, neither}
 
 -- where 5 does not hold
@@ -44,6 +44,11 @@ pub record Room (k : Contents) (room : ℕ) : Type 0 where
   pub same : length (k .lines) ≡ length (k .fractions)
   pub few : length (k .lines) ≤ 55
   pub fits : recordLength (length (k .lines)) ≤ room
+
+pub room-of : (k : Contents) (room : ℕ) → firstOf (writerOrder k room) ≡ 0 → Room k room
+room-of k room e =
+    let h = unmet (writerOrder k room) tt e in
+    record { same = eqb-true _ _ (not-false _ (h 19)); few = count _ (h 5) .few; fits = ltb-false _ _ (h 20) }
 
 -- where none of 19, 4 and 5 holds
 pub record Start (k : Contents) : Type 0 where

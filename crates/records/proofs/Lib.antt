@@ -6,5 +6,5 @@ mod Scans
 mod Digits
 mod Entries
 pub mod ReadLaws
-mod Cases
+pub mod Cases
 mod Numbers

@@ -1,4 +1,4 @@
--- The reader's answer, and the arrays that it holds.
+-- The reader's answer, the arrays that it holds, and the answer of reading and writing again.
 use mathlib.Core.Path.{_≡_, refl, sym, ap, subst, _∙_}
 use mathlib.Core.List.{List}
 use Prim.Native.Nat.{ℕ, _≤_}

@@ -14,7 +14,7 @@ use Rattle.records.specs.Conditions.{headOrder, contentOrder, recordOrde
 use Rattle.records.specs.Calls.{readingOf, writingOf, rewritingOf}
 use Rattle.records.specs.RoundTrips.{ReadThenWritten, WrittenThenRead}
 use Rattle.records.proofs.OrderLaws.{passes, clear-first, clear-second, unmet, neither, decided-accepted}
-use Rattle.records.proofs.Heads.{Head, head, Start, start, Room}
+use Rattle.records.proofs.Heads.{Head, head, Start, start}
 use Rattle.records.proofs.Digits.{digit-0, digit-1, digit-2, digit-3, from-digits}
 use Rattle.records.proofs.Entries.{length-lines, length-fractions, length-entries}
 
@@ -58,7 +58,7 @@ head-again bs h =
     rw (take-firsts 8 bs (h .long), e₀, e₁, e₂, e₃, e₄)
 
 -- the bytes of an accepted record are those of its contents
-pub bytes-again : (bs : List ℕ) → Bytes bs → Head bs → bytesOf (contentsIn bs) ≡ bs
+bytes-again : (bs : List ℕ) → Bytes bs → Head bs → bytesOf (contentsIn bs) ≡ bs
 bytes-again bs b h =
     let es : List ℕ = drop entriesAt bs in
     ap (λ (n : ℕ). headBytes (combustionIn bs) (meteringIn bs) n ++ entriesBytes (linesIn bs) (fractionsIn bs)) (length-lines (countIn bs) es)
@@ -128,9 +128,6 @@ module _ (k : Contents) (room : ℕ) (h : firstOf (writerOrder k room) ≡ 0) wh
   started : Start k
   started = start k (clear-first (startOrder k) (content ++ last) tt h)
 
-  pub accepted-room : Room k room
-  accepted-room = record { same = started .same; few = started .entries .few; fits = ltb-false _ _ (unmet (writerOrder k room) tt h 20) }
-
   content-clear : firstOf content ≡ 0
   content-clear = clear-first content last tt (clear-second (startOrder k) (content ++ last) tt h)
 
@@ -153,7 +150,7 @@ module _ (k : Contents) (room : ℕ) (h : firstOf (writerOrder k room) ≡ 0) wh
         eq-eqb (length (bytesOf k)) (recordLength (length (k .lines))) length-bytes,
       )
 
-  pub written-accepted : readingOf (bytesOf k) ≡ accepted k
+  written-accepted : readingOf (bytesOf k) ≡ accepted k
   written-accepted =
       let c : firstOf (contentOrder (linesIn (bytesOf k)) (fractionsIn (bytesOf k))) ≡ 0 =
       ap (λ (q : Contents). firstOf (contentOrder (q .lines) (q .fractions))) contents-again ∙ content-clear in

@@ -10,7 +10,7 @@ use lib.Seq.{drop-cons}
 use Rattle.components.specs.Composition.{fractionFor}
 use Rattle.records.specs.Conditions.{lineBreaks, fractionZero, aboveLimit, anyAbove}
 
-pub drop-step : (l : List ℕ) (k : ℕ) → k < length l → drop k l ≡ getD l k 0 ∷ drop (k + 1) l
+drop-step : (l : List ℕ) (k : ℕ) → k < length l → drop k l ≡ getD l k 0 ∷ drop (k + 1) l
 drop-step l k h = rw add-one (drop-cons l k 0 h)
 
 pub lines-step : (before : ℕ) (ls : List ℕ) (k : ℕ) → k < length ls

@@ -1,8 +1,8 @@
--- The record part of the cases K1 to K8 of document 01, and damaged input, as lists with one test that computes.
+-- The record part of the cases K1 to K8 of document 01, the pairs, the limits, and damaged input: lists, each with a test that computes.
 use mathlib.Core.Path.{_≡_}
 use mathlib.Core.Bool.{Bool, true, false, _&&_}
 use mathlib.Core.List.{List, [], _∷_, _++_}
-use Prim.Native.Nat.{ℕ, zero, suc, _+_}
+use Prim.Native.Nat.{ℕ, zero, suc, _+_, _-_}
 use lib.Dec.{eqb}
 use lib.ListN.{length, take, replicate}
 use Rattle.components.specs.Tests.{all}
@@ -82,6 +82,34 @@ allLines = upFrom 55 1
 abbrev pub fullGas : Contents
 fullGas = contents 25 20 allLines (973300 ∷ replicate 40 500 ++ (200 ∷ replicate 13 500))
 
+-- a record at 25/20, byte by byte: methane 1,000,000
+abbrev pub twoTemperatures : Case
+twoTemperatures =
+    record {
+      contents = contents 25 20 (1 ∷ []) (1000000 ∷ []);
+      bytes = 0x47 ∷ 0x43 ∷ 0x52 ∷ 0x01 ∷ 0x00 ∷ 0x19 ∷ 0x14 ∷ 0x01 ∷ 0x01 ∷ 0x40 ∷ 0x42 ∷ 0x0F ∷ 0x00 ∷ [];
+      number = 0;
+    }
+
+-- pairs of the temperatures 0, 15, 20 and 25, combustion/metering, and what they give
+abbrev pub pairs : List (ℕ × (ℕ × ℕ))
+pairs =
+    (0, (0, 0)) ∷ (0, (15, 4)) ∷ (0, (20, 4)) ∷ (0, (25, 4))
+    ∷ (15, (0, 0)) ∷ (15, (15, 0)) ∷ (15, (20, 4)) ∷ (15, (25, 4))
+    ∷ (20, (0, 4)) ∷ (20, (15, 4)) ∷ (20, (20, 0)) ∷ (20, (25, 4))
+    ∷ (25, (0, 0)) ∷ (25, (15, 4)) ∷ (25, (20, 0)) ∷ (25, (25, 4))
+    ∷ []
+
+-- a line at its limit beside methane is accepted, and 1 ppm above it gives the number
+abbrev pub limitHolds : ℕ → ℕ → ℕ → Bool
+limitHolds limit number line =
+    caseHolds (given (contents 15 15 (1 ∷ line ∷ []) ((1000000 - limit) ∷ limit ∷ [])) 0)
+    && caseHolds (given (contents 15 15 (1 ∷ line ∷ []) ((999999 - limit) ∷ (limit + 1) ∷ [])) number)
+
+-- the lines other than methane, ethane, water, nitrogen and carbon dioxide
+abbrev pub otherLines : List ℕ
+otherLines = upFrom 39 3 ++ upFrom 9 43 ++ (53 ∷ 55 ∷ [])
+
 -- the first 8 bytes of a record at 15/15: mark, low and high byte of the version, count
 abbrev pub head : List ℕ → ℕ → ℕ → ℕ → List ℕ
 head marks low high n = marks ++ (low ∷ high ∷ 15 ∷ 15 ∷ n ∷ [])
@@ -148,6 +176,13 @@ CasesHold = all caseHolds cases ≡ true
 
 abbrev pub FullGasHolds : Type 0
 FullGasHolds = caseHolds (given fullGas 0) ≡ true
+
+abbrev pub PairsHold : Type 0
+PairsHold =
+    (caseHolds twoTemperatures && all (λ (p : ℕ × (ℕ × ℕ)). caseHolds (given (contents (p .0) (p .1 .0) (1 ∷ []) (1000000 ∷ [])) (p .1 .1))) pairs) ≡ true
+
+abbrev pub LimitsHold : Type 0
+LimitsHold = (limitHolds 300000 11 52 && limitHolds 150000 11 2 && limitHolds 150000 11 54 && limitHolds 200 12 42 && all (limitHolds 50000 11) otherLines) ≡ true
 
 abbrev pub DamagedRefused : Type 0
 DamagedRefused = all (λ (c : List ℕ × ℕ). sameOutcome sameContents (readingOf (c .0)) (refused (c .1))) damaged ≡ true

@@ -35,7 +35,7 @@ nitrogen = 52
 abbrev pub carbonDioxide : ℕ
 carbonDioxide = 54
 
--- the highest fraction of a line other than methane, which has no limit, in ppm
+-- the highest fraction of a line other than methane, which has no upper limit, in ppm
 abbrev pub limitOf : ℕ → ℕ
 limitOf l =
     cond (eqb l nitrogen) 300000

@@ -7,9 +7,8 @@ use borrow.Author.Needs.{needs}
 use lib.ListN.{length}
 use Rattle.records.specs.Format.{Contents, contents, entriesAt, headBytes, entriesBytes, bytesOf, placed}
 use Rattle.records.proofs.OrderLaws.{beside}
-use Rattle.records.proofs.Heads.{Room}
+use Rattle.records.proofs.Heads.{Room, room-of}
 use Rattle.records.proofs.Placing.{placed-after}
-use Rattle.records.proofs.RoundTrips.{accepted-room}
 use Rattle.records.proofs.format.put_record.Statement.{statement}
 use Rattle.records.proofs.format.put_record.Tie as tie
 
@@ -24,7 +23,7 @@ module _ (c : tie.Start) where
 room : (c : tie.Else1) → Room (k (c .before .before .before .before)) (length (old (c .before .before .before .before)))
 room c =
     let s = c .before .before .before .before in
-    accepted-room (k s) (length (old s)) (omega (arith, s .pre))
+    room-of (k s) (length (old s)) (omega (arith, s .pre))
 
 returns : tie.Need-returns
 returns c =
