@@ -1,4 +1,4 @@
--- The round trips hold.
+-- The writer fills its bytes, and the round trips hold.
 use mathlib.Core.Path.{_≡_, refl, sym, ap, _∙_}
 use mathlib.Core.List.{List, [], _∷_, _++_}
 use Prim.Native.Nat.{ℕ, zero, suc, _+_, _*_, _^_, _≤_, _<_}
@@ -6,15 +6,16 @@ use native.Mathlib.Omega.{arith}
 use borrow.Author.Tests.{le-ltb, eq-eqb, ne-eqb, ltb-false, not-false, eqb-true}
 use lib.Dec.{ltb}
 use lib.ListN.{length, getD, take, drop, take-append-drop, length-drop}
-use lib.Seq.{take-suc, take-at, getD-drop}
+use lib.Seq.{take-suc, getD-drop}
 use Rattle.components.specs.Composition.{total}
 use Rattle.records.specs.Order.{Order, firstOf, accepted, decided}
 use Rattle.records.specs.Format.{Contents, Bytes, mark, entriesAt, recordLength, number4, combustionIn, meteringIn, countIn, linesOf, fractionsOf, linesIn, fractionsIn, contentsIn, headBytes, entryBytes, entriesBytes, bytesOf, placed}
 use Rattle.records.specs.Conditions.{headOrder, contentOrder, recordOrder, startOrder, roomOrder, writerOrder}
 use Rattle.records.specs.Calls.{readingOf, writingOf, rewritingOf}
-use Rattle.records.specs.RoundTrips.{ReadThenWritten, WrittenThenRead}
+use Rattle.records.specs.RoundTrips.{FillsItsBytes, ReadThenWritten, WrittenThenRead}
 use Rattle.records.proofs.OrderLaws.{passes, clear-first, clear-second, unmet, neither, decided-accepted}
-use Rattle.records.proofs.Heads.{Head, head, Start, start}
+use Rattle.records.proofs.Heads.{Head, head, Start, start, room-of}
+use Rattle.records.proofs.Placing.{placed-front, placed-others, placed-length}
 use Rattle.records.proofs.Digits.{digit-0, digit-1, digit-2, digit-3, from-digits}
 use Rattle.records.proofs.Entries.{length-lines, length-fractions, length-entries}
 
@@ -158,9 +159,18 @@ module _ (k : Contents) (room : ℕ) (h : firstOf (writerOrder k room) ≡ 0) wh
       sym (passes (headOrder (bytesOf k)) (contentOrder (linesIn (bytesOf k)) (fractionsIn (bytesOf k))) tt refl head-clear refl) ∙ c in
       ap (λ (n : ℕ). decided n (contentsIn (bytesOf k))) z ∙ ap accepted contents-again
 
+pub fills-its-bytes : FillsItsBytes
+fills-its-bytes k old new e =
+    let d = decided-accepted (firstOf (writerOrder k (length old))) (placed old 0 (bytesOf k)) new e in
+    let n = length-bytes k (length old) (d .0) in
+    rw (← d .1)
+    (record {
+      same-length = placed-length old (bytesOf k) (recordLength (length (k .lines))) n (room-of k (length old) (d .0) .fits);
+      front = placed-front old (bytesOf k) (recordLength (length (k .lines))) n;
+      others = placed-others old (bytesOf k) (recordLength (length (k .lines))) n;
+    })
+
 pub written-then-read : WrittenThenRead
 written-then-read k old new e =
     let d = decided-accepted (firstOf (writerOrder k (length old))) (placed old 0 (bytesOf k)) new e in
-    let front : take (recordLength (length (k .lines))) new ≡ bytesOf k =
-    rw (← d .1) (take-at (bytesOf k) _ (recordLength (length (k .lines))) (length-bytes k (length old) (d .0))) in
-    ap readingOf front ∙ written-accepted k (length old) (d .0)
+    ap readingOf (fills-its-bytes k old new e .front) ∙ written-accepted k (length old) (d .0)

@@ -1,11 +1,21 @@
--- The round trips: a record read and written again has the same bytes, and contents written and read again are the same.
+-- Which bytes the writer fills, and the round trips: a record read and written again has the same bytes, and contents written and
+-- read again are the same.
 use mathlib.Core.Path.{_≡_}
 use mathlib.Core.List.{List}
 use Prim.Native.Nat.{ℕ, _≤_}
-use lib.ListN.{length, take}
+use lib.ListN.{length, take, drop}
 use Rattle.records.specs.Order.{accepted}
-use Rattle.records.specs.Format.{Contents, Bytes, recordLength, placed}
+use Rattle.records.specs.Format.{Contents, Bytes, recordLength, bytesOf, placed}
 use Rattle.records.specs.Calls.{readingOf, writingOf}
+
+-- the first 8 + 5n bytes of a buffer are the record, and the others are as they were
+pub record Filled (k : Contents) (old new : List ℕ) : Type 0 where
+  pub same-length : length new ≡ length old
+  pub front : take (recordLength (length (k .lines))) new ≡ bytesOf k
+  pub others : drop (recordLength (length (k .lines))) new ≡ drop (recordLength (length (k .lines))) old
+
+abbrev pub FillsItsBytes : Type 0
+FillsItsBytes = (k : Contents) (old new : List ℕ) → writingOf k old ≡ accepted new → Filled k old new
 
 -- the contents of an accepted record, written into a buffer that has room, are accepted and put the record's bytes there
 abbrev pub ReadThenWritten : Type 0
