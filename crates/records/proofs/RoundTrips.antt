@@ -9,8 +9,8 @@ use lib.ListN.{length, getD, take, drop, take-append-drop, length-drop}
 use lib.Seq.{take-suc, getD-drop}
 use Rattle.components.specs.Composition.{total}
 use Rattle.records.specs.Order.{Order, firstOf, accepted, decided}
-use Rattle.records.specs.Format.{Contents, Bytes, mark, entriesAt, recordLength, number4, combustionIn, meteringIn, countIn, linesOf, fractionsOf, linesIn, fractionsIn, contentsIn, headBytes, entryBytes, entriesBytes, bytesOf, placed}
-use Rattle.records.specs.Conditions.{headOrder, contentOrder, recordOrder, startOrder, roomOrder, writerOrder}
+use Rattle.records.specs.Format.{Contents, Bytes, entriesAt, recordLength, number4, combustionIn, meteringIn, countIn, linesOf, fractionsOf, linesIn, fractionsIn, contentsIn, headBytes, entryBytes, entriesBytes, bytesOf, placed}
+use Rattle.records.specs.Conditions.{headOrder, contentOrder, recordOrder, startOrder, roomOrder, writerOrder, rewriteOrder}
 use Rattle.records.specs.Calls.{readingOf, writingOf, rewritingOf}
 use Rattle.records.specs.RoundTrips.{FillsItsBytes, ReadThenWritten, WrittenThenRead}
 use Rattle.records.proofs.OrderLaws.{passes, clear-first, clear-second, unmet, neither, decided-accepted}
@@ -93,14 +93,14 @@ pub rewriting-is : (bs old : List ℕ) → Bytes bs → firstOf (recordOrder bs)
 rewriting-is bs old b h =
     let w = writer-room bs (length old) h ∙ passes (recordOrder bs) (roomOrder (length old) (countIn bs)) tt refl h refl in
     ap (λ (n : ℕ). decided n (placed old 0 (bytesOf (contentsIn bs)))) w
-    ∙ ap (λ (t : List ℕ). decided (firstOf (recordOrder bs ++ roomOrder (length old) (countIn bs))) (placed old 0 t)) (bytes-again bs b (accepted-head bs h))
+    ∙ ap (λ (t : List ℕ). decided (firstOf (rewriteOrder bs (length old))) (placed old 0 t)) (bytes-again bs b (accepted-head bs h))
 
 -- with room, nothing refuses it
 pub read-then-written : ReadThenWritten
 read-then-written bs old k b e r =
     let d = decided-accepted (firstOf (recordOrder bs)) (contentsIn bs) k e in
     let a = accepted-head bs (d .0) in
-    let w : firstOf (recordOrder bs ++ roomOrder (length old) (countIn bs)) ≡ 0 =
+    let w : firstOf (rewriteOrder bs (length old)) ≡ 0 =
     sym (passes (recordOrder bs) (roomOrder (length old) (countIn bs)) tt refl (d .0) (rw (le-ltb (length old) (recordLength (countIn bs)) (omega (arith, a .exact))))) in
     rw (← d .1) (rewriting-is bs old b (d .0) ∙ rw w)
 

@@ -43,6 +43,10 @@ limitOf l =
     (cond (eqb l water) 200
     50000))
 
+-- 1: record shorter than 8 bytes
+abbrev pub tooShort : List ℕ → Bool
+tooShort bs = ltb (length bs) 8
+
 -- 2: mark differs
 abbrev pub markDiffers : List ℕ → Bool
 markDiffers bs =
@@ -118,7 +122,7 @@ listsOrder nineteen four five = (19, nineteen) ∷ (4, four) ∷ (5, five) ∷ [
 -- the order of a record, in two parts: 1 to 6, and 7 to 12, which the writer shares
 abbrev pub headOrder : List ℕ → Order
 headOrder bs =
-    (1, ltb (length bs) 8)
+    (1, tooShort bs)
     ∷ fieldsOrder (markDiffers bs) (versionDiffers bs) (pairRefused (combustionIn bs) (meteringIn bs)) (countOutside (countIn bs)) (lengthDiffers bs)
 
 abbrev pub contentOrder : List ℕ → List ℕ → Order
