@@ -1,16 +1,22 @@
 -- The loop that sums a column: what is summed and the sum of what is left are the whole, and everything fits.
-use mathlib.Core.Path.{_≡_, sym, _∙_}
+use mathlib.Core.Path.{_≡_, sym, ap, _∙_}
 use mathlib.Core.List.{List}
 use Prim.Native.Nat.{ℕ, _+_, _*_, _^_, _≤_, _<_}
 use native.Mathlib.Nat.{mul-le-mul-left}
 use native.Mathlib.Omega.{arith}
 use lib.IntN.{ℤ, pos, natAbs, _+ℤ_, _*ℤ_, +ℤ-idl}
+use lib.Dec.{T}
 use lib.ListN.{length, getD, drop}
-use Rattle.components.specs.Table.{entryOf}
+use lib.Signed.{nonNeg}
+use mir.Syntax.{w64}
+use mir.Val.{Fits, SFits, toZ, ofZ}
+use mir.Facts.{toZ-ofZ}
+use Rattle.rounding.proofs.SignedWords.{cast-pos}
+use Rattle.components.specs.Table.{entryOf, molarMass, summation, superior, inferior, Unsigned}
 use Rattle.components.specs.Composition.{Composition, total, sumOf}
 use Rattle.components.proofs.Entries.{largest, entry-below}
 use Rattle.components.proofs.SignedSums.{natAbs-add, natAbs-mul}
-use Rattle.components.proofs.SumLaws.{total-step, sum-turn, sum-end}
+use Rattle.components.proofs.SumLaws.{total-step, sum-turn, sum-end, sum-is-sizes, sizes-high}
 
 -- s is the sum of the entries before k
 pub record Summed (c : ℕ) (ls xs : List ℕ) (s : ℤ) (k : ℕ) : Type 0 where
@@ -48,3 +54,24 @@ module _ (c : ℕ) (ls xs : List ℕ) (s : ℤ) (k : ℕ) (i : Summed c ls xs s 
 
   pub all-summed : length ls ≤ k → s ≡ sumOf c ls xs
   all-summed h = sym (sum-end c ls xs k h s) ∙ i .whole
+
+-- the four sums of a composition in one pass
+pub record Four (t j : ℕ) (ls xs : List ℕ) (hs hi m s : ℤ) (k : ℕ) : Type 0 where
+  pub superior : Summed (superior t) ls xs hs k
+  pub inferior : Summed (inferior t) ls xs hi k
+  pub mass : Summed molarMass ls xs m k
+  pub summation : Summed (summation j) ls xs s k
+
+-- one column's sum as the machine holds it, after one more entry
+pub turned : (c : ℕ) (ls xs : List ℕ) (sum : ℕ) (k : ℕ) → Summed c ls xs (toZ w64 sum) k → Composition ls xs → k < length ls
+    → (r : ℤ) → SFits w64 r → r ≡ toZ w64 sum +ℤ pos (getD xs k 0) *ℤ entryOf (getD ls k 0) c → Summed c ls xs (toZ w64 (ofZ w64 r)) (k + 1)
+turned c ls xs sum k i g h r f e = rw (toZ-ofZ f, e) (next-summed c ls xs (toZ w64 sum) k i g h)
+
+-- a column with no number below 0: its sum, cast to an unsigned word
+pub unsigned : (c : ℕ) (ls xs : List ℕ) → Unsigned c → Composition ls xs → (v : ℤ) → v ≡ sumOf c ls xs
+    → T (nonNeg v) × Fits w64 (natAbs v) × (pos (natAbs v) ≡ sumOf c ls xs)
+unsigned c ls xs u g v e =
+    let same = sum-is-sizes c u ls xs in
+    let size = sizes-high c largest (λ l. entry-below l c) ls xs in
+    let fit = cast-pos v _ (e ∙ same) (omega (arith, size, g .sum)) in
+    (fit .0, fit .1, ap (λ (z : ℤ). pos (natAbs z)) (e ∙ same) ∙ sym same)

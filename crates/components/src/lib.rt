@@ -2,7 +2,7 @@
 ghost use mathlib.Core.Path.{_≡_};
 ghost use Prim.Native.Nat.{_+_, _*_, _^_, _≤_, _<_};
 ghost use lib.IntN.{natAbs, pos, _+ℤ_, _*ℤ_};
-ghost use Rattle.components.specs.Table.{componentTable, entryOf, Unsigned};
+ghost use Rattle.components.specs.Table.{componentTable, entryOf, molarMass, summation, superior, inferior};
 ghost use Rattle.components.specs.Composition.{Composition, sumOf};
 
 mod table;
@@ -32,28 +32,53 @@ fn add_product(sum: i64, x: u32, n: i32) -> i64
     sum + (x as i64) * (n as i64)
 }
 
-// The sum of fraction times column over a composition.
-pub fn sum(table: &[[i32; 12]; 55], lines: &[u8], fractions: &[u32], column: usize) -> i64
+// sum, and one more entry's fraction times its line's number in a column.
+fn add_entry(table: &[[i32; 12]; 55], sum: i64, line: u8, fraction: u32, column: usize) -> i64
     requires { ⌜ now table ≡ componentTable ⌝ }
-    requires { ⌜ Composition (now lines) (now fractions) ⌝ }
-    requires { ⌜ column < 12 ⌝ }
-    ensures { λ r. ⌜ r ≡ sumOf column (now (lines .entry)) (now (fractions .entry)) ⌝ }
+    requires { ⌜ (1 ≤ line) × (line ≤ 55) × (column < 12) ⌝ }
+    requires { ⌜ natAbs sum + fraction * natAbs (entryOf line column) < 2 ^ 63 ⌝ }
+    ensures { λ r. ⌜ r ≡ sum +ℤ pos fraction *ℤ entryOf line column ⌝ }
 {
-    let mut sum: i64 = 0;
-    let mut k = 0;
-    while k < lines.len() {
-        sum = add_product(sum, fractions[k], entry(table, lines[k], column));
-        k += 1;
-    }
-    sum
+    add_product(sum, fraction, entry(table, line, column))
 }
 
-// The same for molar mass or a calorific value, columns that have no number below 0.
-pub fn amount(table: &[[i32; 12]; 55], lines: &[u8], fractions: &[u32], column: usize) -> u64
+// Sums of fraction times column: h superior and h inferior, which have no number below 0, m, which has none, and s.
+pub struct Sums {
+    pub superior: u64,
+    pub inferior: u64,
+    pub mass: u64,
+    pub summation: i64,
+}
+
+// The sums of a composition in one pass, with h at the t-th of 25, 20, 15 and 0 °C, and s at the k-th of 0, 15 and 20 °C, each
+// counted from 0.
+pub fn sums_of(table: &[[i32; 12]; 55], lines: &[u8], fractions: &[u32], t: usize, k: usize) -> Sums
     requires { ⌜ now table ≡ componentTable ⌝ }
     requires { ⌜ Composition (now lines) (now fractions) ⌝ }
-    requires { ⌜ Unsigned column ⌝ }
-    ensures { λ r. ⌜ pos r ≡ sumOf column (now (lines .entry)) (now (fractions .entry)) ⌝ }
+    requires { ⌜ (t < 4) × (k < 3) ⌝ }
+    ensures superior { λ r. ⌜ pos (r .superior) ≡ sumOf (superior t) (now (lines .entry)) (now (fractions .entry)) ⌝ }
+    ensures inferior { λ r. ⌜ pos (r .inferior) ≡ sumOf (inferior t) (now (lines .entry)) (now (fractions .entry)) ⌝ }
+    ensures mass { λ r. ⌜ pos (r .mass) ≡ sumOf molarMass (now (lines .entry)) (now (fractions .entry)) ⌝ }
+    ensures summation { λ r. ⌜ r .summation ≡ sumOf (summation k) (now (lines .entry)) (now (fractions .entry)) ⌝ }
 {
-    sum(table, lines, fractions, column) as u64
+    let mut superior: i64 = 0;
+    let mut inferior: i64 = 0;
+    let mut mass: i64 = 0;
+    let mut summation: i64 = 0;
+    let mut i = 0;
+    while i < lines.len() {
+        let line = lines[i];
+        let fraction = fractions[i];
+        superior = add_entry(table, superior, line, fraction, 4 + 2 * t);
+        inferior = add_entry(table, inferior, line, fraction, 5 + 2 * t);
+        mass = add_entry(table, mass, line, fraction, 0);
+        summation = add_entry(table, summation, line, fraction, 1 + k);
+        i += 1;
+    }
+    Sums {
+        superior: superior as u64,
+        inferior: inferior as u64,
+        mass: mass as u64,
+        summation,
+    }
 }

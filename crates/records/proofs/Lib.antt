@@ -6,5 +6,6 @@ mod Scans
 mod Digits
 mod Entries
 pub mod ReadLaws
+pub mod Accepted
 pub mod Cases
 mod Numbers

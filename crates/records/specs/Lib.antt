@@ -4,4 +4,5 @@ pub mod Conditions
 pub mod Calls
 pub mod Answers
 pub mod RoundTrips
+pub mod Accepted
 pub mod Cases

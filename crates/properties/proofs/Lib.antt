@@ -1,0 +1,4 @@
+pub mod Approximations
+pub mod Index
+pub mod StepBounds
+pub mod Gas

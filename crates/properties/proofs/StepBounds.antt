@@ -1,0 +1,102 @@
+-- Bounds of the numbers of each step, from bounds of the numbers that it takes.
+use mathlib.Core.Bool.{Bool, true, false, cond}
+use Prim.Native.Nat.{ℕ, _*_, _-_, _^_, _≤_, _<_}
+use native.Mathlib.Nat.{mul-le-mul, mul-le-mul-left}
+use native.Mathlib.Omega.{arith}
+use lib.Dec.{eqb}
+use Rattle.rounding.specs.Root.{Root}
+use Rattle.rounding.specs.Fraction.{Within, _over_, half}
+use Rattle.rounding.proofs.NearLaws.{near-half, at-most, at-least}
+use Rattle.rounding.proofs.RootLaws.{root-is, root-greatest, below-of-squares}
+use Rattle.properties.specs.Chain.{forMetering, temperature, meteringPlace, combustionPlace, airFactor, idealCalorific, idealDensity, idealRelative, real, rootOf, wobbe}
+
+-- what holds of three numbers holds of the one chosen
+pub chosen : (P : ℕ → Type 0) {x y z : ℕ} → P x → P y → P z → (m : ℕ) → P (forMetering x y z m)
+chosen P {x} {y} {z} hx hy hz m = go (eqb m 0) (eqb m 15)
+  where
+    go : (a b : Bool) → P (cond a x (cond b y z))
+    go true b = hx
+    go false true = hy
+    go false false = hz
+
+pub temperature-low : (m : ℕ) → 27315 ≤ temperature m
+temperature-low = chosen (λ (n : ℕ). 27315 ≤ n) (omega arith) (omega arith) (omega arith)
+
+pub temperature-high : (m : ℕ) → temperature m ≤ 29315
+temperature-high = chosen (λ (n : ℕ). n ≤ 29315) (omega arith) (omega arith) (omega arith)
+
+pub air-low : (m : ℕ) → 99941 ≤ airFactor m
+air-low = chosen (λ (n : ℕ). 99941 ≤ n) (omega arith) (omega arith) (omega arith)
+
+pub air-high : (m : ℕ) → airFactor m ≤ 99963
+air-high = chosen (λ (n : ℕ). n ≤ 99963) (omega arith) (omega arith) (omega arith)
+
+pub metering-place : (m : ℕ) → meteringPlace m < 3
+metering-place = chosen (λ (n : ℕ). n < 3) (omega arith) (omega arith) (omega arith)
+
+pub combustion-place : (c : ℕ) → combustionPlace c < 4
+combustion-place c = go (eqb c 25) (eqb c 20) (eqb c 15)
+  where
+    go : (x y z : Bool) → cond x 0 (cond y 1 (cond z 2 3)) < 4
+    go true y z = omega arith
+    go false true z = omega arith
+    go false false true = omega arith
+    go false false false = omega arith
+
+-- ideal values
+module _ (Hm D : ℕ) where
+  pub calorific-near : 0 < D → Within half (idealCalorific Hm D) ((Hm * 1013250) over D)
+  calorific-near h = near-half (Hm * 1013250) D h
+
+  pub ideal-calorific-high : Hm ≤ 3900000000000 → 831451 * 27315 ≤ D → idealCalorific Hm D ≤ 175000000
+  ideal-calorific-high h l = at-most (calorific-near (omega arith)) (omega arith)
+
+  pub ideal-calorific-low : 100000000000 ≤ Hm → 0 < D → D ≤ 831451 * 29315 → 4000000 ≤ idealCalorific Hm D
+  ideal-calorific-low h p l = at-least (calorific-near p) (omega arith)
+
+module _ (M : ℕ) where
+  pub density-near : (D : ℕ) → 0 < D → Within half (idealDensity M D) ((M * 10132500) over D)
+  density-near D h = near-half (M * 10132500) D h
+
+  pub ideal-density-high : (D : ℕ) → M ≤ 800000000000 → 831451 * 27315 ≤ D → idealDensity M D ≤ 357000000
+  ideal-density-high D h l = at-most (density-near D (omega arith)) (omega arith)
+
+  pub relative-near : (A : ℕ) → Within half (idealRelative M A) ((M * A) over 289626000)
+  relative-near A = near-half (M * A) 289626000 (omega arith)
+
+  pub ideal-relative-high : (A : ℕ) → M ≤ 800000000000 → A ≤ 99963 → idealRelative M A ≤ 277000000
+  ideal-relative-high A h l = at-most (relative-near A) (omega (arith, mul-le-mul h l))
+
+  pub ideal-relative-low : (A : ℕ) → 80000000000 ≤ M → 99941 ≤ A → 27600000 ≤ idealRelative M A
+  ideal-relative-low A h l = at-least (relative-near A) (omega (arith, mul-le-mul h l))
+
+-- real values
+module _ (ideal Z : ℕ) (low : 724000000 ≤ Z) where
+  real-near : Within half (real ideal Z) ((ideal * 10 ^ 9) over Z)
+  real-near = near-half (ideal * 10 ^ 9) Z (omega arith)
+
+  pub real-high : (b : ℕ) → 1000 * ideal ≤ 724 * b → real ideal Z ≤ b
+  real-high b h = at-most real-near (omega (arith, mul-le-mul-left b low))
+
+  pub real-low : Z ≤ 10 ^ 9 → (b : ℕ) → b ≤ ideal → b ≤ real ideal Z
+  real-low high b h = at-least real-near (omega (arith, mul-le-mul-left b high))
+
+-- the index
+module _ (Hs d : ℕ) (d-low : 27600000 ≤ d) (d-high : d ≤ 385000000) where
+  pub root-of : Root (rootOf d) (d * 10 ^ 10)
+  root-of = root-is (d * 10 ^ 10) (omega arith)
+
+  pub root-low : 525000000 ≤ rootOf d
+  root-low = root-greatest root-of 525000000 (omega arith)
+
+  pub root-high : rootOf d < 3000000000
+  root-high = below-of-squares _ 3000000000 (d * 10 ^ 10) (root-of .square) (omega arith)
+
+  pub wobbe-near : Within half (wobbe Hs (rootOf d)) ((Hs * 10 ^ 9) over rootOf d)
+  wobbe-near = near-half (Hs * 10 ^ 9) (rootOf d) (omega (arith, root-low))
+
+  pub wobbe-high : Hs ≤ 242000000 → wobbe Hs (rootOf d) ≤ 461000000
+  wobbe-high h = at-most wobbe-near (omega (arith, root-low))
+
+  pub wobbe-low : 4000000 ≤ Hs → 25 ≤ wobbe Hs (rootOf d)
+  wobbe-low h = at-least wobbe-near (omega (arith, root-high))

@@ -1,0 +1,15 @@
+-- The place is chosen, and fits.
+use borrow.Author.Needs.{needs}
+use native.Mathlib.Omega.{arith}
+use Rattle.properties.proofs.StepBounds.{metering-place}
+use Rattle.properties.proofs.sums.metering_place.Statement.{statement}
+use Rattle.properties.proofs.sums.metering_place.Tie as tie
+
+for-metering-requires : tie.Need-for-metering-requires
+for-metering-requires c κs = search needs
+
+returns : tie.Need-returns
+returns c = (c .for-metering .ensures, omega (arith, c .for-metering .ensures, metering-place (c .before .args .metering)))
+
+pub metering-place-spec : {M : Type 1} → statement M
+metering-place-spec = tie.close (tie.spec for-metering-requires returns)

@@ -1,0 +1,23 @@
+-- The answers of the call on a record: document 01's number, or the six properties, for each case.
+use Prim.Native.Nat.{ℕ}
+use Rattle.records.specs.Order.{Outcome, refused, accepted}
+use Rattle.properties.specs.declared.Properties.{Properties}
+use Rattle.properties.specs.declared.Answer.{Answer}
+use Rattle.properties.specs.declared.Answer.the-variants.{Accepted, Refused}
+use Rattle.properties.specs.Chain.{Six}
+
+-- the numbers of the properties
+abbrev pub numbers : Properties → Six
+numbers p =
+    record {
+      Z = p .z .value;
+      Hs = p .hs .value;
+      Hi = p .hi .value;
+      rho = p .rho .value;
+      d = p .d .value;
+      W = p .w .value;
+    }
+
+abbrev pub meaning : Answer → Outcome Six
+meaning (Accepted p) = accepted (numbers p)
+meaning (Refused n) = refused n

@@ -1,0 +1,35 @@
+-- How far the properties are from the unrounded formula, for every accepted record.
+use mathlib.Core.Path.{_≡_}
+use mathlib.Core.List.{List}
+use Prim.Native.Nat.{ℕ, _+_, _*_, _-_, _^_, _≤_, _<_}
+use Rattle.rounding.specs.Fraction.{Fraction, Within, whole}
+use Rattle.records.specs.Order.{accepted}
+use Rattle.records.specs.Format.{Contents}
+use Rattle.records.specs.Calls.{readingOf}
+use Rattle.properties.specs.Chain.{Six, sixOf, propertiesOf}
+use Rattle.properties.specs.Unrounded as unrounded
+use Rattle.properties.specs.Quantities.{Bounded}
+
+-- W is within t of Hs / √d, with d as a pure number, which is its fraction divided by 10^8: (W − t)² × d ≤ Hs² ≤ (W + t)² × d, each
+-- side multiplied by the denominators, which are above 0
+pub record Indexed (t W : ℕ) (Hs d : Fraction) : Type 0 where
+  pub proper : (0 < Hs .den) × (0 < d .den)
+  pub least : t ≤ W
+  pub under : (W - t) * (W - t) * d .num * (Hs .den * Hs .den) ≤ Hs .num * Hs .num * (d .den * 10 ^ 8)
+  pub over : Hs .num * Hs .num * (d .den * 10 ^ 8) ≤ (W + t) * (W + t) * d .num * (Hs .den * Hs .den)
+
+-- Z, Hs, Hi, rho and d are each within 2 of their unit, and W is within 25
+pub record Distances (k : Contents) (p : Six) : Type 0 where
+  pub Z : Within (whole 2) (p .Z) (unrounded.Z k)
+  pub Hs : Within (whole 2) (p .Hs) (unrounded.Hs k)
+  pub Hi : Within (whole 2) (p .Hi) (unrounded.Hi k)
+  pub rho : Within (whole 2) (p .rho) (unrounded.rho k)
+  pub d : Within (whole 2) (p .d) (unrounded.d k)
+  pub W : Indexed 25 (p .W) (unrounded.Hs k) (unrounded.d k)
+
+-- for every accepted record: the properties stand, they are below their ceilings, and they are within their distances
+abbrev pub AcceptedBounded : Type 0
+AcceptedBounded = (bs : List ℕ) (p : Six) → propertiesOf bs ≡ accepted p → Bounded p
+
+abbrev pub AcceptedWithin : Type 0
+AcceptedWithin = (bs : List ℕ) (k : Contents) → readingOf bs ≡ accepted k → Distances k (sixOf k)

@@ -1,0 +1,5 @@
+pub mod Chain
+pub mod Unrounded
+pub mod Quantities
+pub mod Distances
+pub mod Answers

@@ -1,0 +1,36 @@
+-- The six properties as quantities: how many of a property's unit make 1 of the standard's (1 for Z and d, 1 MJ/m³, 1 kg/m³), and
+-- its ceiling. Each list is in the order Z, Hs, Hi, rho, d, W.
+use mathlib.Core.List.{List, [], _∷_}
+use Prim.Native.Nat.{ℕ, _^_, _≤_}
+use Rattle.properties.specs.Chain.{Six}
+
+abbrev pub scales : List ℕ
+scales = 10 ^ 9 ∷ 10 ^ 6 ∷ 10 ^ 6 ∷ 10 ^ 8 ∷ 10 ^ 8 ∷ 10 ^ 6 ∷ []
+
+-- the ceilings of document 01
+abbrev pub compressionBound : ℕ
+compressionBound = 1000000000
+
+abbrev pub calorificBound : ℕ
+calorificBound = 250000000
+
+abbrev pub densityBound : ℕ
+densityBound = 510000000
+
+abbrev pub relativeBound : ℕ
+relativeBound = 390000000
+
+abbrev pub wobbeBound : ℕ
+wobbeBound = 470000000
+
+abbrev pub bounds : List ℕ
+bounds = compressionBound ∷ calorificBound ∷ calorificBound ∷ densityBound ∷ relativeBound ∷ wobbeBound ∷ []
+
+-- no property passes its ceiling
+pub record Bounded (p : Six) : Type 0 where
+  pub Z : p .Z ≤ compressionBound
+  pub Hs : p .Hs ≤ calorificBound
+  pub Hi : p .Hi ≤ calorificBound
+  pub rho : p .rho ≤ densityBound
+  pub d : p .d ≤ relativeBound
+  pub W : p .W ≤ wobbeBound

@@ -1,0 +1,76 @@
+// The six properties of a gas from its analysis record, by document 01. Every list of bytes gets its properties, or the one number
+// that reading it gives.
+ghost use mathlib.Core.Path.{_≡_};
+ghost use Rattle.records.specs.Format.{contents};
+ghost use Rattle.records.specs.Accepted.{Acceptable};
+ghost use Rattle.properties.specs.Chain.{sixOf, propertiesOf};
+ghost use Rattle.properties.specs.Answers.{numbers, meaning};
+
+pub mod quantities;
+pub mod steps;
+mod sums;
+use quantities::{CompressionFactor, CalorificValue, Density, RelativeDensity, WobbeIndex};
+use records::Verdict;
+
+// The six properties.
+pub struct Properties {
+    pub z: CompressionFactor,
+    pub hs: CalorificValue,
+    pub hi: CalorificValue,
+    pub rho: Density,
+    pub d: RelativeDensity,
+    pub w: WobbeIndex,
+}
+
+// The properties, or document 01's number.
+pub enum Answer {
+    Accepted(Properties),
+    Refused(u8),
+}
+
+// The properties of a composition.
+fn calculate(combustion: u8, metering: u8, lines: &[u8], fractions: &[u32]) -> Properties
+    requires { ⌜ Acceptable (contents combustion metering (now lines) (now fractions)) ⌝ }
+    ensures { λ r. ⌜ numbers r ≡ sixOf (contents combustion metering (now (lines .entry)) (now (fractions .entry))) ⌝ }
+{
+    let sums = sums::sums_of(combustion, metering, lines, fractions);
+    let divisor = steps::divisor(metering);
+    let air = steps::air_factor(metering);
+    let z = steps::compression_factor(sums.summation);
+    let hs = steps::calorific_value(sums.superior, divisor, z);
+    let hi = steps::calorific_value(sums.inferior, divisor, z);
+    let rho = steps::density(sums.mass, divisor, z);
+    let d = steps::relative_density(sums.mass, air, z);
+    let w = steps::wobbe_index(hs, d);
+    Properties {
+        z,
+        hs,
+        hi,
+        rho,
+        d,
+        w,
+    }
+}
+
+// The properties of a record.
+pub fn properties_of(bytes: &[u8]) -> Answer
+    ensures { λ r. ⌜ meaning r ≡ propertiesOf (now (bytes .entry)) ⌝ }
+{
+    let reading = records::read(bytes);
+    let verdict = reading.verdict;
+    let analysis = reading.analysis;
+    match verdict {
+        Verdict::Refused(number) => Answer::Refused(number),
+        Verdict::Accepted => {
+            let n = analysis.count;
+            let lines = analysis.lines;
+            let fractions = analysis.fractions;
+            Answer::Accepted(calculate(
+                analysis.combustion,
+                analysis.metering,
+                &lines[..n],
+                &fractions[..n],
+            ))
+        }
+    }
+}

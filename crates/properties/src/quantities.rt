@@ -1,0 +1,148 @@
+// The properties as quantities. SCALE is how many of the quantity's unit make 1 of the standard's, BOUND the ceiling that no value
+// passes.
+ghost use mathlib.Core.Path.{_≡_};
+ghost use Prim.Native.Nat.{_≤_};
+ghost use Rattle.properties.specs.Quantities.{compressionBound, calorificBound, densityBound, relativeBound, wobbeBound, scales, bounds};
+
+// A compression factor, unit 10^-9.
+pub struct CompressionFactor {
+    value: u64,
+}
+
+impl CompressionFactor {
+    pub const SCALE: u64 = 1000000000;
+    pub const BOUND: u64 = 1000000000;
+
+    pub fn new(value: u64) -> Self
+        requires { ⌜ value ≤ compressionBound ⌝ }
+        ensures { λ r. ⌜ r .value ≡ value ⌝ }
+    {
+        Self { value }
+    }
+
+    pub fn value(self) -> u64
+        ensures { λ r. ⌜ r ≡ self .value ⌝ }
+    {
+        self.value
+    }
+}
+
+// A calorific value, unit J/m³; scale of MJ/m³.
+pub struct CalorificValue {
+    value: u64,
+}
+
+impl CalorificValue {
+    pub const SCALE: u64 = 1000000;
+    pub const BOUND: u64 = 250000000;
+
+    pub fn new(value: u64) -> Self
+        requires { ⌜ value ≤ calorificBound ⌝ }
+        ensures { λ r. ⌜ r .value ≡ value ⌝ }
+    {
+        Self { value }
+    }
+
+    pub fn value(self) -> u64
+        ensures { λ r. ⌜ r ≡ self .value ⌝ }
+    {
+        self.value
+    }
+}
+
+// A density, unit 10^-8 kg/m³; scale of kg/m³.
+pub struct Density {
+    value: u64,
+}
+
+impl Density {
+    pub const SCALE: u64 = 100000000;
+    pub const BOUND: u64 = 510000000;
+
+    pub fn new(value: u64) -> Self
+        requires { ⌜ value ≤ densityBound ⌝ }
+        ensures { λ r. ⌜ r .value ≡ value ⌝ }
+    {
+        Self { value }
+    }
+
+    pub fn value(self) -> u64
+        ensures { λ r. ⌜ r ≡ self .value ⌝ }
+    {
+        self.value
+    }
+}
+
+// A relative density, unit 10^-8.
+pub struct RelativeDensity {
+    value: u64,
+}
+
+impl RelativeDensity {
+    pub const SCALE: u64 = 100000000;
+    pub const BOUND: u64 = 390000000;
+
+    pub fn new(value: u64) -> Self
+        requires { ⌜ value ≤ relativeBound ⌝ }
+        ensures { λ r. ⌜ r .value ≡ value ⌝ }
+    {
+        Self { value }
+    }
+
+    pub fn value(self) -> u64
+        ensures { λ r. ⌜ r ≡ self .value ⌝ }
+    {
+        self.value
+    }
+}
+
+// A Wobbe index, unit J/m³; scale of MJ/m³.
+pub struct WobbeIndex {
+    value: u64,
+}
+
+impl WobbeIndex {
+    pub const SCALE: u64 = 1000000;
+    pub const BOUND: u64 = 470000000;
+
+    pub fn new(value: u64) -> Self
+        requires { ⌜ value ≤ wobbeBound ⌝ }
+        ensures { λ r. ⌜ r .value ≡ value ⌝ }
+    {
+        Self { value }
+    }
+
+    pub fn value(self) -> u64
+        ensures { λ r. ⌜ r ≡ self .value ⌝ }
+    {
+        self.value
+    }
+}
+
+// The scales of Z, Hs, Hi, rho, d and W.
+pub fn scales() -> [u64; 6]
+    ensures { λ r. ⌜ r ≡ scales ⌝ }
+{
+    [
+        CompressionFactor::SCALE,
+        CalorificValue::SCALE,
+        CalorificValue::SCALE,
+        Density::SCALE,
+        RelativeDensity::SCALE,
+        WobbeIndex::SCALE,
+    ]
+}
+
+// The ceilings of Z, Hs, Hi, rho, d and W.
+pub fn bounds() -> [u64; 6]
+    ensures { λ r. ⌜ r ≡ bounds ⌝ }
+{
+    [
+        CompressionFactor::BOUND,
+        CalorificValue::BOUND,
+        CalorificValue::BOUND,
+        Density::BOUND,
+        RelativeDensity::BOUND,
+        WobbeIndex::BOUND,
+    ]
+}

@@ -1,0 +1,99 @@
+// The steps of document 01 from sums to properties, in its order and letters.
+ghost use mathlib.Core.Path.{_≡_};
+ghost use Prim.Native.Nat.{_*_, _^_, _≤_, _<_};
+ghost use lib.IntN.{natAbs};
+ghost use Rattle.properties.specs.Chain.{forMetering, temperature, divisor, airFactor, tenth, compression, idealCalorific, real, idealDensity, idealRelative, rootOf, wobbe};
+
+use super::quantities::{CompressionFactor, CalorificValue, Density, RelativeDensity, WobbeIndex};
+
+// A number for 0, 15 or 20 °C metering.
+pub fn for_metering(at_0: u64, at_15: u64, at_20: u64, metering: u8) -> u64
+    ensures { λ r. ⌜ r ≡ forMetering «at_0» «at_15» «at_20» metering ⌝ }
+{
+    if metering == 0 {
+        return at_0;
+    }
+    if metering == 15 {
+        return at_15;
+    }
+    at_20
+}
+
+// D, from the metering temperature in °C.
+pub fn divisor(metering: u8) -> u64
+    ensures { λ r. ⌜ r ≡ divisor (temperature metering) ⌝ }
+{
+    831451 * for_metering(27315, 28815, 29315, metering)
+}
+
+// A, the compression factor of air, unit 10^-5, from the metering temperature in °C.
+pub fn air_factor(metering: u8) -> u64
+    ensures { λ r. ⌜ r ≡ airFactor metering ⌝ }
+{
+    for_metering(99941, 99958, 99963, metering)
+}
+
+fn square(x: i64) -> u64
+    requires { ⌜ natAbs x < 2 ^ 31 ⌝ }
+    ensures { λ r. ⌜ r ≡ natAbs x * natAbs x ⌝ }
+{
+    (x * x) as u64
+}
+
+// 2. The compression factor.
+pub fn compression_factor(s: i64) -> CompressionFactor
+    requires { ⌜ natAbs s ≤ 5250000000 ⌝ }
+    ensures { λ r. ⌜ r .value ≡ compression (tenth s) ⌝ }
+{
+    let s9 = rounding::nearest_signed(s, 10);
+    CompressionFactor::new(rounding::nearest(1000000000000000000 - square(s9), CompressionFactor::SCALE))
+}
+
+// The real value of a quantity from its ideal one.
+fn real(ideal: u64, z: CompressionFactor) -> u64
+    requires { ⌜ (ideal ≤ 10000000000) × (0 < z .value) ⌝ }
+    ensures { λ r. ⌜ r ≡ real ideal (z .value) ⌝ }
+{
+    rounding::nearest(ideal * CompressionFactor::SCALE, z.value())
+}
+
+// 3. The ideal calorific value, J/m³. It takes the sum of every line of the table, pure.
+pub fn ideal_calorific_value(hm: u64, divisor: u64) -> u64
+    requires { ⌜ (hm ≤ 10000000000000) × (0 < divisor) ⌝ }
+    ensures { λ r. ⌜ r ≡ idealCalorific hm divisor ⌝ }
+{
+    rounding::nearest(hm * 1013250, divisor)
+}
+
+// The calorific value.
+pub fn calorific_value(hm: u64, divisor: u64, z: CompressionFactor) -> CalorificValue
+    requires { ⌜ (hm ≤ 3900000000000) × (831451 * 27315 ≤ divisor) × (724000000 ≤ z .value) ⌝ }
+    ensures { λ r. ⌜ r .value ≡ real (idealCalorific hm divisor) (z .value) ⌝ }
+{
+    CalorificValue::new(real(ideal_calorific_value(hm, divisor), z))
+}
+
+// 4. The density.
+pub fn density(m: u64, divisor: u64, z: CompressionFactor) -> Density
+    requires { ⌜ (m ≤ 800000000000) × (831451 * 27315 ≤ divisor) × (724000000 ≤ z .value) ⌝ }
+    ensures { λ r. ⌜ r .value ≡ real (idealDensity m divisor) (z .value) ⌝ }
+{
+    Density::new(real(rounding::nearest(m * 10132500, divisor), z))
+}
+
+// 5. The relative density.
+pub fn relative_density(m: u64, air: u64, z: CompressionFactor) -> RelativeDensity
+    requires { ⌜ (m ≤ 800000000000) × (air ≤ 99963) × (724000000 ≤ z .value) ⌝ }
+    ensures { λ r. ⌜ r .value ≡ real (idealRelative m air) (z .value) ⌝ }
+{
+    RelativeDensity::new(real(rounding::nearest(m * air, 289626000), z))
+}
+
+// 6. The Wobbe index.
+pub fn wobbe_index(hs: CalorificValue, d: RelativeDensity) -> WobbeIndex
+    requires { ⌜ (hs .value ≤ 242000000) × (27600000 ≤ d .value) × (d .value ≤ 385000000) ⌝ }
+    ensures { λ r. ⌜ r .value ≡ wobbe (hs .value) (rootOf (d .value)) ⌝ }
+{
+    let r = rounding::integer_root(d.value() * 10000000000);
+    WobbeIndex::new(rounding::nearest(hs.value() * 1000000000, r))
+}
