@@ -1,9 +1,9 @@
 -- The gas of every accepted record: its sums and steps within their bounds, its properties below their ceilings and within their
 -- distances.
-use mathlib.Core.Path.{_≡_}
+use mathlib.Core.Path.{_≡_, ap}
 use Prim.Native.Nat.{ℕ, _*_, _^_, _≤_, _<_}
 use native.Mathlib.Omega.{arith}
-use lib.IntN.{natAbs}
+use lib.IntN.{pos, natAbs}
 use Rattle.rounding.specs.Fraction.{Within, _over_, half, whole}
 use Rattle.rounding.proofs.NearLaws.{nearZ-half}
 use Rattle.components.specs.Table.{superior, inferior, Heat}
@@ -11,15 +11,17 @@ use Rattle.components.specs.Composition.{sumOf, overLines}
 use Rattle.components.specs.Bounds.{Bounds}
 use Rattle.components.proofs.AllLines.{sums-run-over-all-lines}
 use Rattle.components.proofs.Bounds.{bounds}
+use Rattle.records.specs.Order.{mapped}
 use Rattle.records.specs.Format.{Contents}
 use Rattle.records.specs.Accepted.{Acceptable}
-use Rattle.properties.specs.Chain.{combustionPlace, tenth, T, D, HmSuperior, HmInferior, M, S, S9, Z, Hs, Hi, rho, A, G, d, r, W, idealCalorific, sixOf}
+use Rattle.records.proofs.Accepted.{accepted-is-acceptable}
+use Rattle.properties.specs.Chain.{combustionPlace, tenth, T, D, HmSuperior, HmInferior, M, S, S9, Z, Hs, Hi, rho, A, G, d, r, W, idealCalorific, idealDensity, real, sixOf}
 use Rattle.properties.specs.Unrounded as unrounded
 use Rattle.properties.specs.Quantities.{Bounded}
-use Rattle.properties.specs.Distances.{Indexed, Distances}
+use Rattle.properties.specs.Distances.{Indexed, Distances, EveryAcceptedRecord}
 use Rattle.properties.proofs.Approximations.{within-half, within-two, z-low, z-high, z-within, real-within}
 use Rattle.properties.proofs.Index.{indexed}
-use Rattle.properties.proofs.StepBounds.{temperature-low, temperature-high, air-low, air-high, metering-place, combustion-place, calorific-near, ideal-calorific-high, ideal-calorific-low, density-near, ideal-density-high, relative-near, ideal-relative-high, ideal-relative-low, real-high, real-low, root-of, root-low, root-high, wobbe-near, wobbe-high, wobbe-low}
+use Rattle.properties.proofs.StepBounds.{one-unit, temperature-low, temperature-high, air-low, air-high, metering-place, combustion-place, calorific-near, ideal-calorific-high, ideal-calorific-low, density-near, ideal-density-high, relative-near, ideal-relative-high, ideal-relative-low, real-high, real-low, root-of, root-low, root-high, wobbe-near, wobbe-high, wobbe-low}
 
 pub heats : (c : ℕ) → Heat (superior (combustionPlace c)) × Heat (inferior (combustionPlace c))
 heats c = let h = combustion-place c in ((omega arith, omega arith), (omega arith, omega arith))
@@ -28,6 +30,10 @@ module _ (k : Contents) (a : Acceptable k) where
   -- the sum over all lines is the sum over the entries
   pub over-entries : (c : ℕ) → overLines c 55 (k .lines) (k .fractions) ≡ sumOf c (k .lines) (k .fractions)
   over-entries c = sums-run-over-all-lines c (k .lines) (k .fractions) (a .ascending)
+
+  -- a sum that the code has made over the entries, as the chain's sum
+  pub amount-is : {c c' : ℕ} → c ≡ c' → (n : ℕ) → pos n ≡ sumOf c (k .lines) (k .fractions) → n ≡ natAbs (overLines c' 55 (k .lines) (k .fractions))
+  amount-is e n h = rw (over-entries _, ← e) (ap natAbs h)
 
   in-bounds : Bounds (k .lines) (k .fractions)
   in-bounds = bounds (k .lines) (k .fractions) (a .composition) (a .share)
@@ -89,3 +95,93 @@ module _ (k : Contents) (a : Acceptable k) where
   Z-within : Within (whole 2) (Z k) (unrounded.Z k)
   unfolding Z
   Z-within = within-two 114 (omega arith) (z-within 1 (natAbs (S k)) (natAbs (S9 k)) (omega (arith, summation-high)) s9-within)
+
+  -- a real quantity is within 2 of its unit: I is its ideal value, N / D the exact one
+  real-of : (N D I : ℕ) → Within half I (N over D) → I ≤ 365000000 → Within (whole 2) (real I (Z k)) (unrounded.real (N over (1 * D)) (unrounded.Z k))
+  unfolding Z
+  real-of N D I h l =
+      real-within 1 (natAbs (S k)) (natAbs (S9 k)) (omega (arith, summation-high)) s9-within N (1 * D) I (within-half 51 (omega arith) (one-unit h)) l
+
+  superior-ideal : idealCalorific (HmSuperior k) (D k) ≤ 175000000
+  superior-ideal = ideal-calorific-high (HmSuperior k) (D k) superior-high D-low
+
+  inferior-ideal : idealCalorific (HmInferior k) (D k) ≤ 175000000
+  inferior-ideal = ideal-calorific-high (HmInferior k) (D k) inferior-high D-low
+
+  mass-ideal : idealDensity (M k) (D k) ≤ 357000000
+  mass-ideal = ideal-density-high (M k) (D k) mass-high D-low
+
+  relative-ideal : G k ≤ 277000000
+  unfolding G
+  relative-ideal = ideal-relative-high (M k) (A k) mass-high A-high
+
+  Hs-within : Within (whole 2) (Hs k) (unrounded.Hs k)
+  unfolding Hs
+  Hs-within = real-of _ _ _ (calorific-near (HmSuperior k) (D k) (omega (arith, D-low))) (omega (arith, superior-ideal))
+
+  Hi-within : Within (whole 2) (Hi k) (unrounded.Hi k)
+  unfolding Hi
+  Hi-within = real-of _ _ _ (calorific-near (HmInferior k) (D k) (omega (arith, D-low))) (omega (arith, inferior-ideal))
+
+  rho-within : Within (whole 2) (rho k) (unrounded.rho k)
+  unfolding rho
+  rho-within = real-of _ _ _ (density-near (M k) (D k) (omega (arith, D-low))) (omega (arith, mass-ideal))
+
+  d-within : Within (whole 2) (d k) (unrounded.d k)
+  unfolding d G
+  d-within = real-of _ _ _ (relative-near (M k) (A k)) (omega (arith, relative-ideal))
+
+  -- bounds of the properties
+  pub Hs-high : Hs k ≤ 242000000
+  unfolding Hs
+  Hs-high = real-high _ (Z k) Z-low 242000000 (omega (arith, superior-ideal))
+
+  Hs-low : 4000000 ≤ Hs k
+  unfolding Hs
+  Hs-low = real-low _ (Z k) Z-low Z-high 4000000 (ideal-calorific-low (HmSuperior k) (D k) superior-low (omega (arith, D-low)) D-high)
+
+  Hi-high : Hi k ≤ 242000000
+  unfolding Hi
+  Hi-high = real-high _ (Z k) Z-low 242000000 (omega (arith, inferior-ideal))
+
+  rho-high : rho k ≤ 494000000
+  unfolding rho
+  rho-high = real-high _ (Z k) Z-low 494000000 (omega (arith, mass-ideal))
+
+  pub d-high : d k ≤ 385000000
+  unfolding d
+  d-high = real-high _ (Z k) Z-low 385000000 (omega (arith, relative-ideal))
+
+  pub d-low : 27600000 ≤ d k
+  unfolding d G
+  d-low = real-low _ (Z k) Z-low Z-high 27600000 (ideal-relative-low (M k) (A k) mass-low A-low)
+
+  W-high : W k ≤ 461000000
+  unfolding W r
+  W-high = wobbe-high (d k) d-low d-high (Hs k) Hs-high
+
+  W-within : Indexed 25 (W k) (unrounded.Hs k) (unrounded.d k)
+  unfolding W r
+  W-within =
+      let low = root-low (d k) d-low d-high in
+      let high = wobbe-high (d k) d-low d-high (Hs k) Hs-high in
+      indexed 20 25 (Hs k) _ _ (d k) _ _ _ _ Hs-within d-within (root-of (d k) d-low d-high) (wobbe-near (d k) d-low d-high (Hs k))
+      (omega (arith, low)) (omega (arith, low, high)) (wobbe-low (d k) d-low d-high (Hs k) Hs-low) (omega (arith, low))
+
+  pub bounded : Bounded (sixOf k)
+  bounded =
+      record {
+        Z = Z-high;
+        Hs = omega (arith, Hs-high);
+        Hi = omega (arith, Hi-high);
+        rho = omega (arith, rho-high);
+        d = omega (arith, d-high);
+        W = omega (arith, W-high);
+      }
+
+  pub distances : Distances k (sixOf k)
+  distances = record { Z = Z-within; Hs = Hs-within; Hi = Hi-within; rho = rho-within; d = d-within; W = W-within }
+
+pub every-accepted-record : EveryAcceptedRecord
+every-accepted-record bs k e =
+    let a = accepted-is-acceptable bs k e in record { answer = ap (mapped sixOf) e; bounded = bounded k a; within = distances k a }

@@ -2,3 +2,4 @@ pub mod Approximations
 pub mod Index
 pub mod StepBounds
 pub mod Gas
+pub mod Cases

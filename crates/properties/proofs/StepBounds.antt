@@ -4,11 +4,13 @@ use Prim.Native.Nat.{ℕ, _*_, _-_, _^_, _≤_, _<_}
 use native.Mathlib.Nat.{mul-le-mul, mul-le-mul-left}
 use native.Mathlib.Omega.{arith}
 use lib.Dec.{eqb}
+use lib.IntN.{ℤ, natAbs}
+use Rattle.rounding.specs.Near.{near}
 use Rattle.rounding.specs.Root.{Root}
 use Rattle.rounding.specs.Fraction.{Within, _over_, half}
-use Rattle.rounding.proofs.NearLaws.{near-half, at-most, at-least}
+use Rattle.rounding.proofs.NearLaws.{near-half, nearZ-half, at-most, at-least}
 use Rattle.rounding.proofs.RootLaws.{root-is, root-greatest, below-of-squares}
-use Rattle.properties.specs.Chain.{forMetering, temperature, meteringPlace, combustionPlace, airFactor, idealCalorific, idealDensity, idealRelative, real, rootOf, wobbe}
+use Rattle.properties.specs.Chain.{forMetering, temperature, meteringPlace, combustionPlace, airFactor, tenth, idealCalorific, idealDensity, idealRelative, real, rootOf, wobbe}
 
 -- what holds of three numbers holds of the one chosen
 pub chosen : (P : ℕ → Type 0) {x y z : ℕ} → P x → P y → P z → (m : ℕ) → P (forMetering x y z m)
@@ -43,6 +45,10 @@ combustion-place c = go (eqb c 25) (eqb c 20) (eqb c 15)
     go false false true = omega arith
     go false false false = omega arith
 
+-- a fraction whose denominator is multiplied by 1
+pub one-unit : {v n q : ℕ} → Within half v (n over q) → Within half v (n over (1 * q))
+one-unit w = record { proper = (omega (arith, w .proper .0), omega arith); below = omega (arith, w .below); above = omega (arith, w .above) }
+
 -- ideal values
 module _ (Hm D : ℕ) where
   pub calorific-near : 0 < D → Within half (idealCalorific Hm D) ((Hm * 1013250) over D)
@@ -70,6 +76,13 @@ module _ (M : ℕ) where
   pub ideal-relative-low : (A : ℕ) → 80000000000 ≤ M → 99941 ≤ A → 27600000 ≤ idealRelative M A
   ideal-relative-low A h l = at-least (relative-near A) (omega (arith, mul-le-mul h l))
 
+-- S9 and Z
+pub tenth-high : (S : ℤ) → natAbs S ≤ 5250000000 → natAbs (tenth S) ≤ 525000000
+tenth-high S h = at-most (nearZ-half S 10 (omega arith)) (omega arith)
+
+pub compression-high : (square : ℕ) → near (10 ^ 18 - square) (10 ^ 9) ≤ 10 ^ 9
+compression-high square = at-most (near-half (10 ^ 18 - square) (10 ^ 9) (omega arith)) (omega arith)
+
 -- real values
 module _ (ideal Z : ℕ) (low : 724000000 ≤ Z) where
   real-near : Within half (real ideal Z) ((ideal * 10 ^ 9) over Z)
@@ -82,7 +95,7 @@ module _ (ideal Z : ℕ) (low : 724000000 ≤ Z) where
   real-low high b h = at-least real-near (omega (arith, mul-le-mul-left b high))
 
 -- the index
-module _ (Hs d : ℕ) (d-low : 27600000 ≤ d) (d-high : d ≤ 385000000) where
+module _ (d : ℕ) (d-low : 27600000 ≤ d) (d-high : d ≤ 385000000) where
   pub root-of : Root (rootOf d) (d * 10 ^ 10)
   root-of = root-is (d * 10 ^ 10) (omega arith)
 
@@ -92,11 +105,11 @@ module _ (Hs d : ℕ) (d-low : 27600000 ≤ d) (d-high : d ≤ 385000000) where
   pub root-high : rootOf d < 3000000000
   root-high = below-of-squares _ 3000000000 (d * 10 ^ 10) (root-of .square) (omega arith)
 
-  pub wobbe-near : Within half (wobbe Hs (rootOf d)) ((Hs * 10 ^ 9) over rootOf d)
-  wobbe-near = near-half (Hs * 10 ^ 9) (rootOf d) (omega (arith, root-low))
+  pub wobbe-near : (Hs : ℕ) → Within half (wobbe Hs (rootOf d)) ((Hs * 10 ^ 9) over rootOf d)
+  wobbe-near Hs = near-half (Hs * 10 ^ 9) (rootOf d) (omega (arith, root-low))
 
-  pub wobbe-high : Hs ≤ 242000000 → wobbe Hs (rootOf d) ≤ 461000000
-  wobbe-high h = at-most wobbe-near (omega (arith, root-low))
+  pub wobbe-high : (Hs : ℕ) → Hs ≤ 242000000 → wobbe Hs (rootOf d) ≤ 461000000
+  wobbe-high Hs h = at-most (wobbe-near Hs) (omega (arith, root-low))
 
-  pub wobbe-low : 4000000 ≤ Hs → 25 ≤ wobbe Hs (rootOf d)
-  wobbe-low h = at-least wobbe-near (omega (arith, root-high))
+  pub wobbe-low : (Hs : ℕ) → 4000000 ≤ Hs → 25 ≤ wobbe Hs (rootOf d)
+  wobbe-low Hs h = at-least (wobbe-near Hs) (omega (arith, root-high))

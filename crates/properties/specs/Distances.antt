@@ -27,9 +27,11 @@ pub record Distances (k : Contents) (p : Six) : Type 0 where
   pub d : Within (whole 2) (p .d) (unrounded.d k)
   pub W : Indexed 25 (p .W) (unrounded.Hs k) (unrounded.d k)
 
--- for every accepted record: the properties stand, they are below their ceilings, and they are within their distances
-abbrev pub AcceptedBounded : Type 0
-AcceptedBounded = (bs : List ℕ) (p : Six) → propertiesOf bs ≡ accepted p → Bounded p
+-- what is shown of a record that reads as k: the call answers its properties, none passes its ceiling, each is within its distance
+pub record Shown (bs : List ℕ) (k : Contents) : Type 0 where
+  pub answer : propertiesOf bs ≡ accepted (sixOf k)
+  pub bounded : Bounded (sixOf k)
+  pub within : Distances k (sixOf k)
 
-abbrev pub AcceptedWithin : Type 0
-AcceptedWithin = (bs : List ℕ) (k : Contents) → readingOf bs ≡ accepted k → Distances k (sixOf k)
+abbrev pub EveryAcceptedRecord : Type 0
+EveryAcceptedRecord = (bs : List ℕ) (k : Contents) → readingOf bs ≡ accepted k → Shown bs k

@@ -1,7 +1,11 @@
 -- The six properties as quantities: how many of a property's unit make 1 of the standard's (1 for Z and d, 1 MJ/m³, 1 kg/m³), and
 -- its ceiling. Each list is in the order Z, Hs, Hi, rho, d, W.
+use mathlib.Core.Path.{_≡_}
+use mathlib.Core.Bool.{true}
 use mathlib.Core.List.{List, [], _∷_}
 use Prim.Native.Nat.{ℕ, _^_, _≤_}
+use lib.Dec.{ltb}
+use Rattle.components.specs.Tests.{all}
 use Rattle.properties.specs.Chain.{Six}
 
 abbrev pub scales : List ℕ
@@ -25,6 +29,10 @@ wobbeBound = 470000000
 
 abbrev pub bounds : List ℕ
 bounds = compressionBound ∷ calorificBound ∷ calorificBound ∷ densityBound ∷ relativeBound ∷ wobbeBound ∷ []
+
+-- each ceiling is below 2^53
+abbrev pub BoundsBelow : Type 0
+BoundsBelow = all (λ (b : ℕ). ltb b (2 ^ 53)) bounds ≡ true
 
 -- no property passes its ceiling
 pub record Bounded (p : Six) : Type 0 where

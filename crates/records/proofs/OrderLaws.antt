@@ -74,6 +74,10 @@ module _ {A : Type 0} where
   beside zero answer other h = elim (h refl) [ ]
   beside (suc n) answer other h = refl
 
+  pub refuses : (n : ℕ) (answer : A) → (n ≡ 0 → ⊥) → decided n answer ≡ refused n
+  refuses zero answer h = elim (h refl) [ ]
+  refuses (suc n) answer h = refl
+
   -- what an outcome says of the number
   pub decided-accepted : (n : ℕ) (answer value : A) → decided n answer ≡ accepted value → (n ≡ 0) × (answer ≡ value)
   decided-accepted zero answer value e = (refl, cc)

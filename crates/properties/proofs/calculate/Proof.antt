@@ -1,56 +1,140 @@
+-- Each step gives its letter of the chain, and the gas keeps each step within what it asks.
+use mathlib.Core.Path.{_≡_, ap, _∙_}
+use Prim.Native.Nat.{ℕ}
+use native.Mathlib.Omega.{arith}
 use borrow.Author.Needs.{needs}
+use lib.IntN.{ℤ}
+use mir.Syntax.{w64}
+use mir.Val.{toZ, ofZ}
+use mir.Facts.{toZ-ofZ}
+use Rattle.rounding.proofs.SignedWords.{fits64}
+use Rattle.records.specs.Format.{Contents, contents}
+use Rattle.records.specs.Accepted.{Acceptable}
+use Rattle.properties.specs.declared.Properties.{Properties}
+use Rattle.properties.specs.Answers.{numbers}
+use Rattle.properties.specs.Chain.{compression, tenth, real, idealCalorific, idealDensity, idealRelative, wobbe, rootOf, Six, T, D, S, S9, Z, Hs, Hi, rho, A, G, d, r, W}
+use Rattle.properties.proofs.Gas.{superior-high, inferior-high, mass-high, summation-high, D-low, A-high, Z-low, Hs-high, d-low, d-high}
 use Rattle.properties.proofs.calculate.Statement.{statement}
 use Rattle.properties.proofs.calculate.Tie as tie
-use Rattle.properties.proofs.calculate.Reads as reads
-use Rattle.properties.proofs.calculate.Lts as lts
-use Rattle.properties.proofs.steps.air_factor.Reads as air-factor-reads
-use Rattle.properties.proofs.steps.calorific_value.Reads as calorific-value-reads
-use Rattle.properties.proofs.steps.compression_factor.Reads as compression-factor-reads
-use Rattle.properties.proofs.steps.density.Reads as density-reads
-use Rattle.properties.proofs.steps.divisor.Reads as divisor-reads
-use Rattle.properties.proofs.steps.relative_density.Reads as relative-density-reads
-use Rattle.properties.proofs.steps.wobbe_index.Reads as wobbe-index-reads
-use Rattle.properties.proofs.sums.sums_of.Reads as sums-of-reads
 
--- src/lib.rt:36:9
+-- a step's answer, with what it takes replaced by letters of the chain
+stepped : (f : ℕ → ℕ → ℕ → ℕ) {v x y z x' y' z' : ℕ} → v ≡ f x y z → x ≡ x' → y ≡ y' → z ≡ z' → v ≡ f x' y' z'
+stepped f e ex ey ez = rw (← ex, ← ey, ← ez) e
+
+indexed : {v Hs d Hs' d' : ℕ} → v ≡ wobbe Hs (rootOf d) → Hs ≡ Hs' → d ≡ d' → v ≡ wobbe Hs' (rootOf d')
+indexed e eh ed = rw (← eh, ← ed) e
+
+together : (p : Properties) (q : Six) → p .z .value ≡ q .Z → p .hs .value ≡ q .Hs → p .hi .value ≡ q .Hi → p .rho .value ≡ q .rho
+    → p .d .value ≡ q .d → p .w .value ≡ q .W → numbers p ≡ q
+together p q e1 e2 e3 e4 e5 e6 = rw (e1, e2, e3, e4, e5, e6)
+
+module _ (c : tie.After-struct-told) where
+  abbrev start : tie.Start
+  start = c .before .before .before .before .before .before
+
+  abbrev gas : Contents
+  gas = contents (start .args .combustion) (start .args .metering) (start .args .lines .now) (start .args .fractions .now)
+
+  good : Acceptable gas
+  good = start .pre
+
+  summation-is : toZ w64 (ofZ w64 (c .before .before .before .sums-of .result .summation)) ≡ S gas
+  summation-is =
+      let e = c .before .before .before .sums-of .ensures .1 .1 .1 in
+      toZ-ofZ (fits64 _ (rw e (omega (arith, summation-high gas good)))) ∙ e
+
 sums-of-requires : tie.Need-sums-of-requires
 sums-of-requires c κs = search needs
 
--- src/lib.rt:37:9
 divisor-requires : tie.Need-divisor-requires
 divisor-requires c κs = search needs
 
--- src/lib.rt:38:9
 air-factor-requires : tie.Need-air-factor-requires
 air-factor-requires c κs = search needs
 
--- src/lib.rt:39:9
 compression-factor-requires : tie.Need-compression-factor-requires
-compression-factor-requires c κs = ?
+compression-factor-requires c κs = rw (summation-is c) (summation-high (gas c) (good c))
 
--- src/lib.rt:40:9
+-- D, A and Z
+module _ (c : tie.After-compression-factor) where
+  abbrev sums : tie.After-sums-of
+  sums = c .before .before .before .before
+
+  abbrev k : Contents
+  k = gas (c .before)
+
+  D-is : c .before .before .before .divisor .result ≡ D k
+  unfolding D T
+  D-is = c .before .before .before .divisor .ensures
+
+  A-is : c .before .before .air-factor .result ≡ A k
+  unfolding A
+  A-is = c .before .before .air-factor .ensures
+
+  Z-is : c .compression-factor .result .value ≡ Z k
+  unfolding Z S9
+  Z-is = c .compression-factor .ensures ∙ ap (λ (s : ℤ). compression (tenth s)) (summation-is (c .before))
+
 calorific-value-requires : tie.Need-calorific-value-requires
-calorific-value-requires c κs = ?
+calorific-value-requires c κs =
+    let g = good (c .before) in
+    (omega (arith, sums c .sums-of .ensures .0, superior-high (k c) g), omega (arith, D-is c, D-low (k c) g), omega (arith, Z-is c, Z-low (k c) g))
 
--- src/lib.rt:41:9
 calorific-value-requires-2 : tie.Need-calorific-value-requires-2
-calorific-value-requires-2 c κs = ?
+calorific-value-requires-2 c κs =
+    let b = c .before in
+    let g = good (b .before) in
+    (omega (arith, sums b .sums-of .ensures .1 .0, inferior-high (k b) g), omega (arith, D-is b, D-low (k b) g), omega (arith, Z-is b, Z-low (k b) g))
 
--- src/lib.rt:42:9
 density-requires : tie.Need-density-requires
-density-requires c κs = ?
+density-requires c κs =
+    let b = c .before .before in
+    let g = good (b .before) in
+    (omega (arith, sums b .sums-of .ensures .1 .1 .0, mass-high (k b) g), omega (arith, D-is b, D-low (k b) g), omega (arith, Z-is b, Z-low (k b) g))
 
--- src/lib.rt:43:9
 relative-density-requires : tie.Need-relative-density-requires
-relative-density-requires c κs = ?
+relative-density-requires c κs =
+    let b = c .before .before .before in
+    let g = good (b .before) in
+    (omega (arith, sums b .sums-of .ensures .1 .1 .0, mass-high (k b) g), omega (arith, A-is b, A-high (k b) g), omega (arith, Z-is b, Z-low (k b) g))
 
--- src/lib.rt:44:9
+-- Hs and d
+module _ (c : tie.After-relative-density) where
+  abbrev at-z : tie.After-compression-factor
+  at-z = c .before .before .before .before
+
+  Hs-is : c .before .before .before .calorific-value .result .value ≡ Hs (k at-z)
+  unfolding Hs
+  Hs-is = stepped (λ (Hm D Z : ℕ). real (idealCalorific Hm D) Z) (c .before .before .before .calorific-value .ensures) (sums at-z .sums-of .ensures .0) (D-is at-z) (Z-is at-z)
+
+  d-is : c .relative-density .result .value ≡ d (k at-z)
+  unfolding d G
+  d-is = stepped (λ (M A Z : ℕ). real (idealRelative M A) Z) (c .relative-density .ensures) (sums at-z .sums-of .ensures .1 .1 .0) (A-is at-z) (Z-is at-z)
+
 wobbe-index-requires : tie.Need-wobbe-index-requires
-wobbe-index-requires c κs = ?
+wobbe-index-requires c κs =
+    let b = at-z c in
+    let g = good (b .before) in
+    (omega (arith, Hs-is c, Hs-high (k b) g), omega (arith, d-is c, d-low (k b) g), omega (arith, d-is c, d-high (k b) g))
 
--- src/lib.rt:32:1
+module _ (c : tie.After-wobbe-index) where
+  abbrev z : tie.After-compression-factor
+  z = at-z (c .before)
+
+  Hi-is : c .before .before .before .calorific-value2 .result .value ≡ Hi (k z)
+  unfolding Hi
+  Hi-is = stepped (λ (Hm D Z : ℕ). real (idealCalorific Hm D) Z) (c .before .before .before .calorific-value2 .ensures) (sums z .sums-of .ensures .1 .0) (D-is z) (Z-is z)
+
+  rho-is : c .before .before .density .result .value ≡ rho (k z)
+  unfolding rho
+  rho-is = stepped (λ (M D Z : ℕ). real (idealDensity M D) Z) (c .before .before .density .ensures) (sums z .sums-of .ensures .1 .1 .0) (D-is z) (Z-is z)
+
+  W-is : c .wobbe-index .result .value ≡ W (k z)
+  unfolding W r
+  W-is = indexed (c .wobbe-index .ensures) (Hs-is (c .before)) (d-is (c .before))
+
 returns : tie.Need-returns
-returns c = ?
+returns c = together _ _ (Z-is (z c)) (Hs-is (c .before)) (Hi-is c) (rho-is c) (d-is (c .before)) (W-is c)
 
 pub calculate-spec : {M : Type 1} → statement M
 calculate-spec =

@@ -1,27 +1,27 @@
+-- The ideal and the real value are below their bounds.
 use borrow.Author.Needs.{needs}
+use native.Mathlib.Omega.{arith}
+use Rattle.properties.proofs.StepBounds.{ideal-calorific-high, real-high}
 use Rattle.properties.proofs.steps.calorific_value.Statement.{statement}
 use Rattle.properties.proofs.steps.calorific_value.Tie as tie
-use Rattle.properties.proofs.steps.calorific_value.Reads as reads
-use Rattle.properties.proofs.steps.calorific_value.Lts as lts
-use Rattle.properties.proofs.quantities.CalorificValue.new.Reads as new-reads
-use Rattle.properties.proofs.steps.ideal_calorific_value.Reads as ideal-calorific-value-reads
-use Rattle.properties.proofs.steps.real.Reads as real-reads
 
--- src/steps.rt:73:30
 ideal-calorific-value-requires : tie.Need-ideal-calorific-value-requires
 ideal-calorific-value-requires c κs = search needs
 
--- src/steps.rt:73:25
 real-requires : tie.Need-real-requires
-real-requires c κs = ?
+real-requires c κs =
+    let b = c .before in
+    (omega (arith, c .ideal-calorific-value .ensures, ideal-calorific-high (b .args .hm) (b .args .divisor) (b .pre .0) (b .pre .1)), omega (arith, b .pre .2))
 
--- src/steps.rt:73:5
 new-requires : tie.Need-new-requires
-new-requires c κs = ?
+new-requires c κs =
+    let b = c .before .before in
+    let h = ideal-calorific-high (b .args .hm) (b .args .divisor) (b .pre .0) (b .pre .1) in
+    let l = real-high (c .before .ideal-calorific-value .result) (b .args .z .value) (b .pre .2) 242000000 (omega (arith, c .before .ideal-calorific-value .ensures, h)) in
+    omega (arith, c .real .ensures, l)
 
--- src/steps.rt:69:1
 returns : tie.Need-returns
-returns c = ?
+returns c = cc
 
 pub calorific-value-spec : {M : Type 1} → statement M
 calorific-value-spec =

@@ -1,31 +1,30 @@
+-- The ideal and the real value are below their bounds.
 use borrow.Author.Needs.{needs}
+use native.Mathlib.Omega.{arith}
+use Rattle.properties.proofs.StepBounds.{ideal-density-high, real-high}
 use Rattle.properties.proofs.steps.density.Statement.{statement}
 use Rattle.properties.proofs.steps.density.Tie as tie
-use Rattle.properties.proofs.steps.density.Reads as reads
-use Rattle.properties.proofs.steps.density.Lts as lts
-use Rattle.properties.proofs.quantities.Density.new.Reads as new-reads
-use Rattle.properties.proofs.steps.real.Reads as real-reads
-use Rattle.rounding.proofs.nearest.Reads as nearest-reads
 
--- src/steps.rt:81:41
 mul-nearest : tie.Need-mul-nearest
 mul-nearest c = search needs
 
--- src/steps.rt:81:23
 nearest-requires : tie.Need-nearest-requires
 nearest-requires c κs = search needs
 
--- src/steps.rt:81:18
 real-requires : tie.Need-real-requires
-real-requires c κs = ?
+real-requires c κs =
+    let b = c .before in
+    (omega (arith, c .nearest .ensures, ideal-density-high (b .args .m) (b .args .divisor) (b .pre .0) (b .pre .1)), omega (arith, b .pre .2))
 
--- src/steps.rt:81:5
 new-requires : tie.Need-new-requires
-new-requires c κs = ?
+new-requires c κs =
+    let b = c .before .before in
+    let h = ideal-density-high (b .args .m) (b .args .divisor) (b .pre .0) (b .pre .1) in
+    let l = real-high (c .before .nearest .result) (b .args .z .value) (b .pre .2) 494000000 (omega (arith, c .before .nearest .ensures, h)) in
+    omega (arith, c .real .ensures, l)
 
--- src/steps.rt:77:1
 returns : tie.Need-returns
-returns c = ?
+returns c = cc
 
 pub density-spec : {M : Type 1} → statement M
 density-spec = tie.close (tie.spec mul-nearest nearest-requires real-requires new-requires returns)

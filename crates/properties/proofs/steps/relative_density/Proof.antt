@@ -1,31 +1,31 @@
+-- The ideal and the real value are below their bounds.
 use borrow.Author.Needs.{needs}
+use native.Mathlib.Omega.{arith}
+use native.Mathlib.Nat.{mul-le-mul}
+use Rattle.properties.proofs.StepBounds.{ideal-relative-high, real-high}
 use Rattle.properties.proofs.steps.relative_density.Statement.{statement}
 use Rattle.properties.proofs.steps.relative_density.Tie as tie
-use Rattle.properties.proofs.steps.relative_density.Reads as reads
-use Rattle.properties.proofs.steps.relative_density.Lts as lts
-use Rattle.properties.proofs.quantities.RelativeDensity.new.Reads as new-reads
-use Rattle.properties.proofs.steps.real.Reads as real-reads
-use Rattle.rounding.proofs.nearest.Reads as nearest-reads
 
--- src/steps.rt:89:49
 mul-nearest : tie.Need-mul-nearest
-mul-nearest c = ?
+mul-nearest c = record { fits = omega (arith, mul-le-mul (c .pre .0) (c .pre .1)) }
 
--- src/steps.rt:89:31
 nearest-requires : tie.Need-nearest-requires
 nearest-requires c κs = search needs
 
--- src/steps.rt:89:26
 real-requires : tie.Need-real-requires
-real-requires c κs = ?
+real-requires c κs =
+    let b = c .before in
+    (omega (arith, c .nearest .ensures, ideal-relative-high (b .args .m) (b .args .air) (b .pre .0) (b .pre .1)), omega (arith, b .pre .2))
 
--- src/steps.rt:89:5
 new-requires : tie.Need-new-requires
-new-requires c κs = ?
+new-requires c κs =
+    let b = c .before .before in
+    let h = ideal-relative-high (b .args .m) (b .args .air) (b .pre .0) (b .pre .1) in
+    let l = real-high (c .before .nearest .result) (b .args .z .value) (b .pre .2) 385000000 (omega (arith, c .before .nearest .ensures, h)) in
+    omega (arith, c .real .ensures, l)
 
--- src/steps.rt:85:1
 returns : tie.Need-returns
-returns c = ?
+returns c = cc
 
 pub relative-density-spec : {M : Type 1} → statement M
 relative-density-spec =

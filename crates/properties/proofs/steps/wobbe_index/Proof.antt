@@ -1,45 +1,49 @@
+-- The root is above 0, and the index below its bound.
 use borrow.Author.Needs.{needs}
+use mathlib.Core.Path.{_≡_, _∙_}
+use Prim.Native.Nat.{_≤_}
+use native.Mathlib.Omega.{arith}
+use Rattle.properties.specs.Chain.{rootOf, wobbe}
+use Rattle.properties.proofs.StepBounds.{root-low, wobbe-high}
 use Rattle.properties.proofs.steps.wobbe_index.Statement.{statement}
 use Rattle.properties.proofs.steps.wobbe_index.Tie as tie
-use Rattle.properties.proofs.steps.wobbe_index.Reads as reads
-use Rattle.properties.proofs.steps.wobbe_index.Lts as lts
-use Rattle.properties.proofs.quantities.CalorificValue.value.Reads as quantities-CalorificValue-value-reads
-use Rattle.properties.proofs.quantities.RelativeDensity.value.Reads as quantities-RelativeDensity-value-reads
-use Rattle.properties.proofs.quantities.WobbeIndex.new.Reads as new-reads
-use Rattle.rounding.proofs.integer_root.Reads as integer-root-reads
-use Rattle.rounding.proofs.nearest.Reads as nearest-reads
 
--- src/steps.rt:97:36
+-- the root, and the index rounded
+root-value : (c : tie.After-integer-root) → c .integer-root .result ≡ rootOf (c .before .before .args .d .value)
+root-value c = cc
+
+least : (c : tie.After-integer-root) → 525000000 ≤ rootOf (c .before .before .args .d .value)
+least c = let b = c .before .before in root-low (b .args .d .value) (b .pre .1) (b .pre .2)
+
+index-value : (c : tie.After-nearest)
+    → c .nearest .result ≡ wobbe (c .before .before .before .before .args .hs .value) (rootOf (c .before .before .before .before .args .d .value))
+index-value c = let e = root-value (c .before .before) in cc
+
 value-requires : tie.Need-value-requires
 value-requires c κs = search needs
 
--- src/steps.rt:97:36
 mul-integer-root : tie.Need-mul-integer-root
 mul-integer-root c = search needs
 
--- src/steps.rt:97:9
 integer-root-requires : tie.Need-integer-root-requires
 integer-root-requires c κs = search needs
 
--- src/steps.rt:98:39
 value-requires-2 : tie.Need-value-requires-2
 value-requires-2 c κs = search needs
 
--- src/steps.rt:98:39
 mul-nearest : tie.Need-mul-nearest
 mul-nearest c = search needs
 
--- src/steps.rt:98:21
 nearest-requires : tie.Need-nearest-requires
-nearest-requires c κs = ?
+nearest-requires c κs = omega (arith, root-value (c .before), least (c .before))
 
--- src/steps.rt:98:5
 new-requires : tie.Need-new-requires
-new-requires c κs = ?
+new-requires c κs =
+    let b = c .before .before .before .before in
+    omega (arith, index-value c, wobbe-high (b .args .d .value) (b .pre .1) (b .pre .2) (b .args .hs .value) (b .pre .0))
 
--- src/steps.rt:93:1
 returns : tie.Need-returns
-returns c = ?
+returns c = c .new .ensures ∙ index-value (c .before)
 
 pub wobbe-index-spec : {M : Type 1} → statement M
 wobbe-index-spec =

@@ -1,32 +1,52 @@
+-- The sums over the entries are those over all lines.
+use mathlib.Core.Path.{_≡_, refl, sym, ap, _∙_}
+use Prim.Native.Nat.{ℕ}
+use native.Mathlib.Omega.{arith}
 use borrow.Author.Needs.{needs}
+use Rattle.components.specs.Table.{superior, inferior, summation}
+use Rattle.components.specs.Composition.{sumOf}
+use Rattle.records.specs.Format.{Contents, contents}
+use Rattle.records.specs.Accepted.{Acceptable}
+use Rattle.properties.specs.Chain.{HmSuperior, HmInferior, M, S}
+use Rattle.properties.proofs.Gas.{amount-is, over-entries}
 use Rattle.properties.proofs.sums.sums_of.Statement.{statement}
 use Rattle.properties.proofs.sums.sums_of.Tie as tie
-use Rattle.properties.proofs.sums.sums_of.Reads as reads
-use Rattle.properties.proofs.sums.sums_of.Lts as lts
-use Rattle.components.proofs.component_table.Reads as component-table-reads
-use Rattle.components.proofs.sums_of.Reads as sums-of-reads
-use Rattle.properties.proofs.sums.combustion_place.Reads as combustion-place-reads
-use Rattle.properties.proofs.sums.metering_place.Reads as metering-place-reads
 
--- src/sums.rt:42:17
+module _ (c : tie.After-metering-place) where
+  abbrev start : tie.Start
+  start = c .before .before .before .before .before .before
+
+  abbrev gas : Contents
+  gas = contents (start .args .combustion) (start .args .metering) (start .args .lines .now) (start .args .fractions .now)
+
+  good : Acceptable gas
+  good = start .pre
+
 component-table-requires : tie.Need-component-table-requires
 component-table-requires c κs = search needs
 
--- src/sums.rt:47:9
 combustion-place-requires : tie.Need-combustion-place-requires
 combustion-place-requires c κs = search needs
 
--- src/sums.rt:48:9
 metering-place-requires : tie.Need-metering-place-requires
 metering-place-requires c κs = search needs
 
--- src/sums.rt:43:5
 sums-of-requires : tie.Need-sums-of-requires
-sums-of-requires c κs = ?
+sums-of-requires c κs =
+    (c .before .before .before .component-table .ensures, (good c .composition, (omega (arith, c .before .combustion-place .ensures .1), omega (arith, c .metering-place .ensures .1))))
 
--- src/sums.rt:35:1
 returns : tie.Need-returns
-returns c = ?
+unfolding HmSuperior HmInferior M S
+returns c =
+    let b = c .before in
+    let t = b .before .combustion-place .ensures .0 in
+    let e = c .sums-of .ensures in
+    (
+      amount-is (gas b) (good b) (ap superior t) _ (e .0),
+      (amount-is (gas b) (good b) (ap inferior t) _ (e .1 .0),
+      (amount-is (gas b) (good b) refl _ (e .1 .1 .0),
+      e .1 .1 .1 ∙ ap (λ (k : ℕ). sumOf (summation k) (gas b .lines) (gas b .fractions)) (b .metering-place .ensures .0) ∙ sym (over-entries (gas b) (good b) _))),
+    )
 
 pub sums-of-spec : {M : Type 1} → statement M
 sums-of-spec =
