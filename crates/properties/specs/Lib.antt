@@ -3,3 +3,4 @@ pub mod Unrounded
 pub mod Quantities
 pub mod Distances
 pub mod Answers
+pub mod Cases
