@@ -3,3 +3,4 @@ pub mod Index
 pub mod StepBounds
 pub mod Gas
 pub mod Cases
+pub mod Outcomes

@@ -1,7 +1,9 @@
 // The six properties of a gas from its analysis record, by document 01. Every list of bytes gets its properties, or the one number
 // that reading it gives.
 ghost use mathlib.Core.Path.{_≡_};
+ghost use Rattle.records.specs.Order.{firstOf};
 ghost use Rattle.records.specs.Format.{contents};
+ghost use Rattle.records.specs.Conditions.{headOrder};
 ghost use Rattle.records.specs.Accepted.{Acceptable};
 ghost use Rattle.properties.specs.Chain.{sixOf, propertiesOf};
 ghost use Rattle.properties.specs.Answers.{numbers, meaning};
@@ -10,7 +12,6 @@ pub mod quantities;
 pub mod steps;
 mod sums;
 use quantities::{CompressionFactor, CalorificValue, Density, RelativeDensity, WobbeIndex};
-use records::Verdict;
 
 // The six properties.
 pub struct Properties {
@@ -56,21 +57,29 @@ fn calculate(combustion: u8, metering: u8, lines: &[u8], fractions: &[u32]) -> P
 pub fn properties_of(bytes: &[u8]) -> Answer
     ensures { λ r. ⌜ meaning r ≡ propertiesOf (now (bytes .entry)) ⌝ }
 {
-    let reading = records::read(bytes);
-    let verdict = reading.verdict;
-    let analysis = reading.analysis;
-    match verdict {
-        Verdict::Refused(number) => Answer::Refused(number),
-        Verdict::Accepted => {
-            let n = analysis.count;
-            let lines = analysis.lines;
-            let fractions = analysis.fractions;
-            Answer::Accepted(calculate(
-                analysis.combustion,
-                analysis.metering,
-                &lines[..n],
-                &fractions[..n],
-            ))
-        }
+    let head = records::conditions::head_refusal(bytes);
+    if head != 0 {
+        return Answer::Refused(head);
     }
+    properties_of_entries(bytes)
+}
+
+// The same where none of 1 to 6 holds.
+fn properties_of_entries(bytes: &[u8]) -> Answer
+    requires { ⌜ firstOf (headOrder (now bytes)) ≡ 0 ⌝ }
+    ensures { λ r. ⌜ meaning r ≡ propertiesOf (now (bytes .entry)) ⌝ }
+{
+    let n = bytes[7] as usize;
+    let mut lines = [0u8; 55];
+    let mut fractions = [0u32; 55];
+    let refusal = records::entries_refusal(bytes, &mut lines, &mut fractions);
+    if refusal != 0 {
+        return Answer::Refused(refusal);
+    }
+    Answer::Accepted(calculate(
+        bytes[5],
+        bytes[6],
+        &lines[..n],
+        &fractions[..n],
+    ))
 }

@@ -5,7 +5,7 @@ use Prim.Native.Nat.{ℕ, zero, suc, _+_, _*_, _≤_, _<_}
 use native.Mathlib.Nat.{zero-add, add-assoc}
 use native.Mathlib.Numerals.{add-one}
 use native.Mathlib.Omega.{arith}
-use lib.ListN.{length, getD, take, drop, set, replicate}
+use lib.ListN.{length, getD, take, drop, set, replicate, length-append, length-drop}
 use lib.Seq.{paste-suc, getD-drop, take-all, take-length, length-take-le}
 use Rattle.records.specs.Format.{number4, linesOf, fractionsOf, entryBytes, entriesBytes, placed}
 use Rattle.records.specs.Answers.{padded}
@@ -40,6 +40,9 @@ fraction-at (suc n) es (suc k) h = fraction-at n (drop 5 es) k (omega arith) ∙
 -- an array of 55 whose first k numbers are those of s, and the others 0
 abbrev pub filled : List ℕ → ℕ → List ℕ
 filled s k = take k s ++ drop k (replicate 55 0)
+
+pub filled-length : (s array : List ℕ) (k : ℕ) → k ≤ length s → k ≤ 55 → array ≡ filled s k → length array ≡ 55
+filled-length s array k hs hk e = rw e (simp (length-append, length-drop) (omega (arith, length-take-le k s hs)))
 
 fill : (s array : List ℕ) (k v : ℕ) → k < length s → k < 55 → array ≡ filled s k → getD s k 0 ≡ v → set array k v ≡ filled s (k + 1)
 fill s array k v hs hd e f = rw (e, ← f, add-one) (simp zero-add at (paste-suc (replicate 55 0) 0 s k 0 (rw zero-add hd) hs))

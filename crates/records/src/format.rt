@@ -49,7 +49,7 @@ fn number_4(bytes: &[u8], at: usize) -> u32
 }
 
 // The n entries of a record into two arrays that hold 0.
-pub fn read_entries(bytes: &[u8], n: usize, lines: &mut [u8; 55], fractions: &mut [u32; 55])
+pub fn read_entries(bytes: &[u8], n: usize, lines: &mut [u8], fractions: &mut [u32])
     requires { ⌜ (n ≤ 55) × (recordLength n ≤ length (now bytes)) ⌝ }
     requires { ⌜ (now lines ≡ replicate 55 0) × (now fractions ≡ replicate 55 0) ⌝ }
     ensures { λ _. ⌜ (now (lines .exit) ≡ padded (linesOf n (drop entriesAt (now (bytes .entry))))) × (now (fractions .exit) ≡ padded (fractionsOf n (drop entriesAt (now (bytes .entry))))) ⌝ }
