@@ -2,7 +2,7 @@
 use mathlib.Core.Path.{_≡_, refl}
 use lib.IntN.{pos, negsuc}
 use Rattle.rounding.specs.Near.{near, nearZ, floor}
-use Rattle.rounding.specs.Root.{root, rootFrom, roundAt, roundsTo, rootRounds}
+use Rattle.rounding.specs.Root.{root, rootFrom, nextCandidate, firstCandidate, roundsFrom, rootRounds}
 
 half-up : (near 4 10 ≡ 0) × (near 5 10 ≡ 1) × (near 14 10 ≡ 1) × (near 15 10 ≡ 2)
 unfolding near
@@ -23,7 +23,7 @@ roots : (root 18446744065119617025 ≡ 4294967295) × (root 18446744065119617024
 unfolding root rootFrom
 roots = (refl, refl, refl)
 
--- no search takes more rounds than that for the root of 0; that for the root of 2^62 takes 1
-rounds : (rootRounds 0 ≡ 33) × (rootRounds 4611686018427387904 ≡ 1)
-unfolding root rootFrom roundAt roundsTo rootRounds
-rounds = (refl, refl)
+-- the search for the root of 0 halves its candidate to 0, that of 2^60 begins with the root, that of d × 10^10 of K1 takes four rounds
+rounds : (rootRounds 0 ≡ 31) × (rootRounds 1152921504606846976 ≡ 1) × (rootRounds 604593670000000000 ≡ 4)
+unfolding root rootFrom nextCandidate firstCandidate roundsFrom rootRounds
+rounds = (refl, refl, refl)

@@ -4,5 +4,5 @@ pub mod RootLaws
 pub mod SignedWords
 mod Signs
 mod Quotient
-mod Bisection
+mod Newton
 mod Cases

@@ -1,5 +1,5 @@
 -- The integer square root: the greatest whole number whose square is at most n.
-use Prim.Native.Nat.{ℕ, zero, suc, _+_, _*_, _/_, _^_, _≤_, _<_}
+use Prim.Native.Nat.{ℕ, zero, suc, _+_, _*_, _-_, _/_, _^_, _≤_, _<_}
 use mathlib.Core.Bool.{cond}
 use lib.Dec.{eqb, leb, ltb}
 
@@ -17,16 +17,20 @@ rootFrom (suc k) n c = rootFrom k n (cond (leb ((c + 2 ^ k) * (c + 2 ^ k)) n) (c
 unfoldable pub root : ℕ → ℕ
 root n = rootFrom 32 n 0
 
--- One round of a bisection of the numbers from lo to below hi tries c, between them. Where that is r the round is the last;
--- otherwise `next` counts the rounds from lo to below c, or from c + 1 to below hi.
-unfoldable pub roundAt : (ℕ → ℕ → ℕ) → ℕ → ℕ → ℕ → ℕ → ℕ
-roundAt next r lo c hi = suc (cond (eqb c r) 0 (cond (ltb r c) (next lo c) (next (c + 1) hi)))
+-- The search for the root of n, which document 01 leaves to the program: Newton's method. The mean of c and n/c, rounded down, is
+-- the candidate after c.
+unfoldable pub nextCandidate : ℕ → ℕ → ℕ
+nextCandidate n c = (c + n / c) / 2
 
--- the rounds of a bisection until it tries r, which begins each round in the middle and makes at most k
-unfoldable pub roundsTo : ℕ → ℕ → ℕ → ℕ → ℕ
-roundsTo r zero lo hi = 0
-roundsTo r (suc k) lo hi = roundAt (roundsTo r k) r lo ((lo + hi) / 2) hi
+-- the first candidate is the one after 2^30, or the largest root where it is above that
+unfoldable pub firstCandidate : ℕ → ℕ
+firstCandidate n = cond (ltb (nextCandidate n (2 ^ 30)) (2 ^ 32)) (nextCandidate n (2 ^ 30)) (2 ^ 32 - 1)
 
--- the rounds of the search for the integer root of n, which document 01 leaves to the program: 33 are enough for every n below 2^64
+-- the rounds from candidate c until r is tried, at most k
+unfoldable pub roundsFrom : ℕ → ℕ → ℕ → ℕ → ℕ
+roundsFrom r n zero c = 0
+roundsFrom r n (suc k) c = suc (cond (eqb c r) 0 (roundsFrom r n k (nextCandidate n c)))
+
+-- the rounds of the search: 33 are enough for every n below 2^64
 unfoldable pub rootRounds : ℕ → ℕ
-rootRounds n = roundsTo (root n) 33 0 4294967296
+rootRounds n = roundsFrom (root n) n 33 (firstCandidate n)

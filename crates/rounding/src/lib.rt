@@ -4,7 +4,7 @@ ghost use Prim.Native.Nat.{_^_, _≤_, _<_};
 ghost use lib.IntN.{pos, negℤ, natAbs};
 ghost use Rattle.rounding.specs.Near.{near, nearZ};
 ghost use Rattle.rounding.specs.Wide.{Wide, dividend};
-ghost use Rattle.rounding.specs.Root.{root, rootRounds};
+ghost use Rattle.rounding.specs.Root.{root, firstCandidate, rootRounds};
 
 // The whole number nearest to n / q, halves upward. n is not doubled, so every n has an answer.
 pub fn nearest(n: u64, q: u64) -> u64
@@ -54,27 +54,29 @@ struct Rooted {
     rounds: u64,
 }
 
-// The integer square root by bisection: the root is at least lo and below hi. Each round tries one candidate, and the
-// search ends with the round whose candidate is the root.
+// The first candidate for the root, at least the root.
+fn first_candidate(n: u64) -> u64
+    ensures { λ r. ⌜ r ≡ firstCandidate n ⌝ }
+{
+    let c = (1073741824 + n / 1073741824) / 2;
+    if c < 4294967296 { c } else { 4294967295 }
+}
+
+// The integer square root by Newton's method, from above: a candidate is at least the root, and at most half as far from it as
+// the one before. Each round tries one candidate, and the search ends with the round whose candidate is the root.
 fn root_search(n: u64) -> Rooted
     ensures right { λ r. ⌜ r .root ≡ root n ⌝ }
     ensures counted { λ r. ⌜ r .rounds ≡ rootRounds n ⌝ }
     ensures few { λ r. ⌜ r .rounds ≤ 33 ⌝ }
 {
-    let mut lo: u64 = 0;
-    let mut hi: u64 = 4294967296;
+    let mut c = first_candidate(n);
     let mut rounds: u64 = 0;
     loop {
-        let c = (lo + hi) / 2;
-        let square = c * c;
         rounds += 1;
-        if n < square {
-            hi = c;
-        } else if n - square <= 2 * c {
+        if c * c <= n {
             return Rooted { root: c, rounds };
-        } else {
-            lo = c + 1;
         }
+        c = (c + n / c) / 2;
     }
 }
 

@@ -71,7 +71,8 @@ add-add-entry : tie.Need-add-add-entry Inv-loop μ-loop
 add-add-entry c = omega (arith, start c .pre .1 .1 .0)
 
 add-entry-requires : tie.Need-add-entry-requires Inv-loop μ-loop
-add-entry-requires c κs = (start c .pre .0, asked c _ _ (omega (arith, start c .pre .1 .1 .0)) (at c .loop .inv .superior))
+add-entry-requires c κs =
+    let q = asked c _ _ (omega (arith, start c .pre .1 .1 .0)) (at c .loop .inv .superior) in (start c .pre .0, (q .0, omega (arith, q .1)))
 
 mul-add-entry-2 : tie.Need-mul-add-entry-2 Inv-loop μ-loop
 mul-add-entry-2 c = omega (arith, start (c .before) .pre .1 .1 .0)
@@ -81,17 +82,21 @@ add-add-entry-2 c = omega (arith, start (c .before) .pre .1 .1 .0)
 
 add-entry-requires-2 : tie.Need-add-entry-requires-2 Inv-loop μ-loop
 add-entry-requires-2 c κs =
-    let b = c .before in (start b .pre .0, asked b _ _ (omega (arith, start b .pre .1 .1 .0)) (at b .loop .inv .inferior))
+    let b = c .before in
+    let q = asked b _ _ (omega (arith, start b .pre .1 .1 .0)) (at b .loop .inv .inferior) in (start b .pre .0, (q .0, omega (arith, q .1)))
 
 add-entry-requires-3 : tie.Need-add-entry-requires-3 Inv-loop μ-loop
-add-entry-requires-3 c κs = let b = c .before .before in (start b .pre .0, asked b _ _ (omega arith) (at b .loop .inv .mass))
+add-entry-requires-3 c κs =
+    let b = c .before .before in
+    let q = asked b _ _ (omega arith) (at b .loop .inv .mass) in (start b .pre .0, (q .0, omega (arith, q .1)))
 
 add-add-entry-3 : tie.Need-add-add-entry-3 Inv-loop μ-loop
 add-add-entry-3 c = omega (arith, start (c .before .before .before) .pre .1 .1 .1)
 
 add-entry-requires-4 : tie.Need-add-entry-requires-4 Inv-loop μ-loop
 add-entry-requires-4 c κs =
-    let b = c .before .before .before in (start b .pre .0, asked b _ _ (omega (arith, start b .pre .1 .1 .1)) (at b .loop .inv .summation))
+    let b = c .before .before .before in
+    let q = asked b _ _ (omega (arith, start b .pre .1 .1 .1)) (at b .loop .inv .summation) in (start b .pre .0, (q .0, omega (arith, q .1)))
 
 add-i : tie.Need-add-i Inv-loop μ-loop
 add-i c = omega arith
