@@ -2,10 +2,12 @@
 """The six properties by document 01, written a second time: whole numbers of Python, and the component table from the second
 transcription of source document 002, tools/reading/.
 
-usage: tools/reference.py     prints the rows of `gases` in crates/properties/specs/Cases.antt
+usage: tools/reference.py rows       the rows of `gases` in crates/properties/specs/Cases.antt
+       tools/reference.py output     what crates/try_properties prints: its file `stdout`
 """
 import csv
 import os
+import sys
 from decimal import Decimal
 from math import isqrt
 
@@ -43,26 +45,78 @@ def properties(combustion, metering, gas):
     return Z, Hs, Hi, rho, d, W
 
 
+def methane_and(*others):
+    """Methane up to 1,000,000, and other lines with their fractions."""
+    return [(1, 1000000 - sum(x for _, x in others)), *others]
+
+
 ANNEX_D = list(zip([1, 2, 3, 4, 5, 6, 52, 54], [924700, 35000, 9800, 2200, 3400, 600, 17500, 6800]))
+HYDROGEN = methane_and((41, 50000))
+HEAVY = methane_and(*[(line, 50000) for line in range(8, 18)])
 EVERY_LINE = list(zip(range(1, 56), [973300] + [500] * 40 + [200] + [500] * 13))
-HEAVY = [(1, 500000)] + [(line, 50000) for line in range(8, 18)]
-HYDROGEN = [(1, 950000), (41, 50000)]
+
+# title, name in Cases.antt, pair, gas
+GASES = [
+    ("annex D 15/15, K1", "annexD", 15, 15, ANNEX_D),
+    ("annex D 0/0", "annexD", 0, 0, ANNEX_D),
+    ("annex D 15/0", "annexD", 15, 0, ANNEX_D),
+    ("annex D 25/0", "annexD", 25, 0, ANNEX_D),
+    ("annex D 20/20", "annexD", 20, 20, ANNEX_D),
+    ("annex D 25/20", "annexD", 25, 20, ANNEX_D),
+    ("hydrogen 15/15", "hydrogen", 15, 15, HYDROGEN),
+    ("hydrogen 25/0", "hydrogen", 25, 0, HYDROGEN),
+    ("heavy 0/0", "heavy", 0, 0, HEAVY),
+    ("every line 25/20", "everyLine", 25, 20, EVERY_LINE),
+]
+# title, and a gas at 15/15 or the number of its refusal, as document 01 has it
+CASES = [
+    ("K2", methane_and()),
+    ("K3, 999,900", [(1, 999900)]),
+    ("K3, 1,000,100", [(1, 1000100)]),
+    ("K3, 999,899", 9),
+    ("K3, 1,000,101", 9),
+    ("K4, 300,000", methane_and((52, 300000))),
+    ("K4, 300,001", 11),
+    ("K5, methane 500,000", methane_and((2, 50000), (52, 300000), (54, 150000))),
+    ("K5, methane 499,999", 10),
+    ("K6, water 200", methane_and((42, 200))),
+    ("K6, water 201", 12),
+    ("K7", methane_and((55, 50000))),
+    ("K8, 25/15", 4),
+    ("K8, line 1 twice", 7),
+    ("7 bytes", 1),
+    ("mark GCS", 2),
+    ("version 2", 3),
+    ("no entry", 5),
+    ("a byte short", 6),
+    ("fraction 0", 8),
+]
+
+
+def rows():
+    before = "    "
+    for _, name, combustion, metering, gas in GASES:
+        six = " ".join(str(n) for n in properties(combustion, metering, gas))
+        yield f"{before}({name} {combustion} {metering}, six {six})"
+        before = "    ∷ "
+
+
+def output():
+    answers = [(title, properties(combustion, metering, gas)) for title, _, combustion, metering, gas in GASES]
+    answers += [(title, case if isinstance(case, int) else properties(15, 15, case)) for title, case in CASES]
+    for title, answer in answers:
+        yield f"{title}:"
+        if isinstance(answer, int):
+            yield f"refused {answer}"
+        else:
+            yield from (f"{name} {number}" for name, number in zip(["Z", "Hs", "Hi", "rho", "d", "W"], answer))
+
 
 if __name__ == "__main__":
-    before = "    "
-    for name, combustion, metering, gas in [
-        ("annexD", 15, 15, ANNEX_D),
-        ("annexD", 0, 0, ANNEX_D),
-        ("annexD", 15, 0, ANNEX_D),
-        ("annexD", 25, 0, ANNEX_D),
-        ("annexD", 20, 20, ANNEX_D),
-        ("annexD", 25, 20, ANNEX_D),
-        ("pure", 15, 15, [(1, 1000000)]),
-        ("hydrogen", 15, 15, HYDROGEN),
-        ("hydrogen", 25, 0, HYDROGEN),
-        ("heavy", 0, 0, HEAVY),
-        ("everyLine", 25, 20, EVERY_LINE),
-    ]:
-        six = " ".join(str(n) for n in properties(combustion, metering, gas))
-        print(f"{before}({name} {combustion} {metering}, six {six})")
-        before = "    ∷ "
+    asked = sys.argv[1:]
+    if asked == ["rows"]:
+        print("\n".join(rows()))
+    elif asked == ["output"]:
+        print("\n".join(output()))
+    else:
+        sys.exit(__doc__)

@@ -27,10 +27,22 @@ pub quotient : (e f K N D I P R Z Q : ℕ)
 quotient e f K N D I P R Z Q hI hZ hQ pos side =
     record {
       proper = (mul-pos (hI .proper .0) pos, omega arith);
-      below = omega (arith, mul-le-mul-right (Q * D) (hZ .above), mul-le-mul-right (R * D) (hQ .below),
-        mul-le-mul-right (K * R) (hI .below), mul-le-mul-right (R * D) side, mul-le-mul-right D (hZ .below));
-      above = omega (arith, mul-le-mul-right (Q * D) (hZ .below), mul-le-mul-right (R * D) (hQ .above),
-        mul-le-mul-right (K * R) (hI .above), mul-le-mul-right (R * D) side, mul-le-mul-right D (hZ .below));
+      below = omega (
+        arith,
+        mul-le-mul-right (Q * D) (hZ .above),
+        mul-le-mul-right (R * D) (hQ .below),
+        mul-le-mul-right (K * R) (hI .below),
+        mul-le-mul-right (R * D) side,
+        mul-le-mul-right D (hZ .below),
+      );
+      above = omega (
+        arith,
+        mul-le-mul-right (Q * D) (hZ .below),
+        mul-le-mul-right (R * D) (hQ .above),
+        mul-le-mul-right (K * R) (hI .above),
+        mul-le-mul-right (R * D) side,
+        mul-le-mul-right D (hZ .below),
+      );
     }
 
 -- The squares of the tenth s and of X / (10 U) are close.

@@ -71,11 +71,11 @@ module _ (k : Contents) (a : Acceptable k) where
   unfolding D T
   D-high = omega (arith, temperature-high (k .metering))
 
-  A-low : 99941 ≤ A k
+  A-low : 99900 ≤ A k
   unfolding A
   A-low = air-low (k .metering)
 
-  pub A-high : A k ≤ 99963
+  pub A-high : A k ≤ 100000
   unfolding A
   A-high = air-high (k .metering)
 
@@ -152,9 +152,9 @@ module _ (k : Contents) (a : Acceptable k) where
   unfolding d
   d-high = real-high _ (Z k) Z-low 385000000 (omega (arith, relative-ideal))
 
-  pub d-low : 27600000 ≤ d k
+  pub d-low : 27590000 ≤ d k
   unfolding d G
-  d-low = real-low _ (Z k) Z-low Z-high 27600000 (ideal-relative-low (M k) (A k) mass-low A-low)
+  d-low = real-low _ (Z k) Z-low Z-high 27590000 (ideal-relative-low (M k) (A k) mass-low A-low)
 
   W-high : W k ≤ 461000000
   unfolding W r

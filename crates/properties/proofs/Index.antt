@@ -20,7 +20,6 @@ square-over w a K L hn hd dn dd h k = omega (arith, mul-le-mul-right (w * w * (h
 module _ (k t H hn hd d dn dd r W : ℕ)
     (hH : Within (whole 2) H (hn over hd)) (hD : Within (whole 2) d (dn over dd)) (hr : Root r (d * 10 ^ 10)) (hW : Within half W ((H * 10 ^ 9) over r))
     (moved : 2 * 10 ^ 10 + k * k ≤ 2 * (k * r)) (room : 4 * 10 ^ 9 + 2 * ((k + 1) * W) + 2 * (t * k) + r ≤ 2 * (t * r)) where
-
   root-over : 10 ^ 10 * dn ≤ (r + k + 1) * (r + k + 1) * dd
   root-over =
       let h : 10 ^ 10 * (d + 2) ≤ (r + k + 1) * (r + k + 1) = omega (arith, hr .next) in

@@ -6,7 +6,8 @@ use Rattle.records.specs.Order.{firstOf, refused, accepted, decided, mapped}
 use Rattle.records.specs.Format.{contentsIn}
 use Rattle.records.specs.Conditions.{recordOrder}
 use Rattle.records.proofs.OrderLaws.{mapped-decided, refuses}
-use Rattle.properties.specs.Chain.{sixOf, propertiesOf}
+use Rattle.records.proofs.FirstBytes as records
+use Rattle.properties.specs.Chain.{sixOf, propertiesOf, FirstBytesDecide}
 
 pub refused-properties : (bs : List ℕ) {n : ℕ} → n ≡ firstOf (recordOrder bs) → (n ≡ 0 → ⊥) → refused n ≡ propertiesOf bs
 refused-properties bs e h =
@@ -15,3 +16,6 @@ refused-properties bs e h =
 
 pub accepted-properties : (bs : List ℕ) → firstOf (recordOrder bs) ≡ 0 → accepted (sixOf (contentsIn bs)) ≡ propertiesOf bs
 accepted-properties bs e = sym (ap (λ (n : ℕ). mapped sixOf (decided n (contentsIn bs))) e)
+
+pub first-bytes-decide : FirstBytesDecide
+first-bytes-decide bs = ap (mapped sixOf) (records.first-bytes-decide bs)

@@ -27,11 +27,11 @@ temperature-low = chosen (λ (n : ℕ). 27315 ≤ n) (omega arith) (omega arith)
 pub temperature-high : (m : ℕ) → temperature m ≤ 29315
 temperature-high = chosen (λ (n : ℕ). n ≤ 29315) (omega arith) (omega arith) (omega arith)
 
-pub air-low : (m : ℕ) → 99941 ≤ airFactor m
-air-low = chosen (λ (n : ℕ). 99941 ≤ n) (omega arith) (omega arith) (omega arith)
+pub air-low : (m : ℕ) → 99900 ≤ airFactor m
+air-low = chosen (λ (n : ℕ). 99900 ≤ n) (omega arith) (omega arith) (omega arith)
 
-pub air-high : (m : ℕ) → airFactor m ≤ 99963
-air-high = chosen (λ (n : ℕ). n ≤ 99963) (omega arith) (omega arith) (omega arith)
+pub air-high : (m : ℕ) → airFactor m ≤ 100000
+air-high = chosen (λ (n : ℕ). n ≤ 100000) (omega arith) (omega arith) (omega arith)
 
 pub metering-place : (m : ℕ) → meteringPlace m < 3
 metering-place = chosen (λ (n : ℕ). n < 3) (omega arith) (omega arith) (omega arith)
@@ -70,10 +70,10 @@ module _ (M : ℕ) where
   pub relative-near : (A : ℕ) → Within half (idealRelative M A) ((M * A) over 289626000)
   relative-near A = near-half (M * A) 289626000 (omega arith)
 
-  pub ideal-relative-high : (A : ℕ) → M ≤ 800000000000 → A ≤ 99963 → idealRelative M A ≤ 277000000
+  pub ideal-relative-high : (A : ℕ) → M ≤ 800000000000 → A ≤ 100000 → idealRelative M A ≤ 277000000
   ideal-relative-high A h l = at-most (relative-near A) (omega (arith, mul-le-mul h l))
 
-  pub ideal-relative-low : (A : ℕ) → 80000000000 ≤ M → 99941 ≤ A → 27600000 ≤ idealRelative M A
+  pub ideal-relative-low : (A : ℕ) → 80000000000 ≤ M → 99900 ≤ A → 27590000 ≤ idealRelative M A
   ideal-relative-low A h l = at-least (relative-near A) (omega (arith, mul-le-mul h l))
 
 -- S9 and Z
@@ -95,7 +95,7 @@ module _ (ideal Z : ℕ) (low : 724000000 ≤ Z) where
   real-low high b h = at-least real-near (omega (arith, mul-le-mul-left b high))
 
 -- the index
-module _ (d : ℕ) (d-low : 27600000 ≤ d) (d-high : d ≤ 385000000) where
+module _ (d : ℕ) (d-low : 27590000 ≤ d) (d-high : d ≤ 385000000) where
   pub root-of : Root (rootOf d) (d * 10 ^ 10)
   root-of = root-is (d * 10 ^ 10) (omega arith)
 

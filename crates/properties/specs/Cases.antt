@@ -29,10 +29,7 @@ K1 = propertiesOf (bytesOf (annexD 15 15)) ≡ accepted (six 997709976 38959473 
 abbrev pub K2 : Type 0
 K2 = mapped {B = ℕ × ℕ} (λ (p : Six). (p .Z, p .Hs)) (propertiesOf k2) ≡ accepted (998001910, 37781616)
 
--- methane alone; methane with hydrogen; the least methane with ten heavy lines; every line
-abbrev pub pure : ℕ → ℕ → Contents
-pure c m = contents c m (1 ∷ []) (1000000 ∷ [])
-
+-- methane with hydrogen; the least methane with ten heavy lines; every line
 abbrev pub hydrogen : ℕ → ℕ → Contents
 hydrogen c m = contents c m (1 ∷ 41 ∷ []) (950000 ∷ 50000 ∷ [])
 
@@ -43,7 +40,7 @@ abbrev pub everyLine : ℕ → ℕ → Contents
 everyLine c m = contents c m (fullGas .lines) (fullGas .fractions)
 
 -- Gases and their properties, at every permitted pair. The numbers are those of a second implementation of document 01, over a second
--- transcription of the table: tools/reference.py prints these rows.
+-- transcription of the table: `tools/reference.py rows` prints them.
 abbrev pub gases : List (Contents × Six)
 gases =
     (annexD 15 15, six 997709976 38959473 35144879 74087496 60459367 50105024)
@@ -52,7 +49,6 @@ gases =
     ∷ (annexD 25 0, six 997243032 41075912 37087983 78192597 60477389 52819064)
     ∷ (annexD 20 20, six 997826769 38270612 34539616 72815328 60455314 49220743)
     ∷ (annexD 25 20, six 997826769 38251140 34537459 72815328 60455314 49195700)
-    ∷ (pure 15 15, six 998001910 37781616 34015574 67985382 55479715 50723991)
     ∷ (hydrogen 15 15, six 998217049 36490978 32819889 64999239 53042863 50103957)
     ∷ (hydrogen 25 0, six 997851678 38468753 34631245 68593772 53053260 52814366)
     ∷ (heavy 0 0, six 947547549 133811348 123305978 270369180 209114709 92533855)

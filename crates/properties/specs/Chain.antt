@@ -1,17 +1,19 @@
 -- From fractions to properties: the six steps of document 01, in its order, with its letters and constants. First the formula of
 -- each step, over the numbers that it takes; then the chain of a composition.
+use mathlib.Core.Path.{_≡_}
 use mathlib.Core.Bool.{cond}
 use mathlib.Core.List.{List}
 use Prim.Native.Nat.{ℕ, _*_, _-_, _^_}
 use lib.Dec.{eqb}
 use lib.IntN.{ℤ, natAbs}
+use lib.ListN.{take}
 use Rattle.rounding.specs.Near.{near, nearZ}
 use Rattle.rounding.specs.Root.{root}
 use Rattle.components.specs.Table.{molarMass, summation, superior, inferior}
 use Rattle.components.specs.Composition.{overLines}
 use Rattle.records.specs.Order.{Outcome, mapped}
 use Rattle.records.specs.Format.{Contents}
-use Rattle.records.specs.Calls.{readingOf}
+use Rattle.records.specs.Calls.{readingOf, enough}
 
 -- a number for 0, 15 or 20 °C metering
 abbrev pub forMetering : ℕ → ℕ → ℕ → ℕ → ℕ
@@ -140,3 +142,7 @@ sixOf k = record { Z = Z k; Hs = Hs k; Hi = Hi k; rho = rho k; d = d k; W = W k 
 -- the properties of a list of bytes: those of the record's contents, or the number that reading it gives
 abbrev pub propertiesOf : List ℕ → Outcome Six
 propertiesOf bs = mapped sixOf (readingOf bs)
+
+-- the first bytes of an input decide its properties, as they decide what reading gives
+abbrev pub FirstBytesDecide : Type 0
+FirstBytesDecide = (bs : List ℕ) → propertiesOf (take enough bs) ≡ propertiesOf bs

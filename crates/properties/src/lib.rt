@@ -11,7 +11,12 @@ ghost use Rattle.properties.specs.Answers.{numbers, meaning};
 pub mod quantities;
 pub mod steps;
 mod sums;
-use quantities::{CompressionFactor, CalorificValue, Density, RelativeDensity, WobbeIndex};
+
+use quantities::CalorificValue;
+use quantities::CompressionFactor;
+use quantities::Density;
+use quantities::RelativeDensity;
+use quantities::WobbeIndex;
 
 // The six properties.
 pub struct Properties {
@@ -76,10 +81,5 @@ fn properties_of_entries(bytes: &[u8]) -> Answer
     if refusal != 0 {
         return Answer::Refused(refusal);
     }
-    Answer::Accepted(calculate(
-        bytes[5],
-        bytes[6],
-        &lines[..n],
-        &fractions[..n],
-    ))
+    Answer::Accepted(calculate(bytes[5], bytes[6], &lines[..n], &fractions[..n]))
 }

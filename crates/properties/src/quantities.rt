@@ -11,6 +11,7 @@ pub struct CompressionFactor {
 
 impl CompressionFactor {
     pub const SCALE: u64 = 1000000000;
+
     pub const BOUND: u64 = 1000000000;
 
     pub fn new(value: u64) -> Self
@@ -34,6 +35,7 @@ pub struct CalorificValue {
 
 impl CalorificValue {
     pub const SCALE: u64 = 1000000;
+
     pub const BOUND: u64 = 250000000;
 
     pub fn new(value: u64) -> Self
@@ -57,6 +59,7 @@ pub struct Density {
 
 impl Density {
     pub const SCALE: u64 = 100000000;
+
     pub const BOUND: u64 = 510000000;
 
     pub fn new(value: u64) -> Self
@@ -80,6 +83,7 @@ pub struct RelativeDensity {
 
 impl RelativeDensity {
     pub const SCALE: u64 = 100000000;
+
     pub const BOUND: u64 = 390000000;
 
     pub fn new(value: u64) -> Self
@@ -103,6 +107,7 @@ pub struct WobbeIndex {
 
 impl WobbeIndex {
     pub const SCALE: u64 = 1000000;
+
     pub const BOUND: u64 = 470000000;
 
     pub fn new(value: u64) -> Self

@@ -3,8 +3,11 @@ ghost use mathlib.Core.Path.{_≡_};
 ghost use Prim.Native.Nat.{_*_, _^_, _≤_, _<_};
 ghost use lib.IntN.{natAbs};
 ghost use Rattle.properties.specs.Chain.{forMetering, temperature, divisor, airFactor, tenth, compression, idealCalorific, real, idealDensity, idealRelative, rootOf, wobbe};
-
-use super::quantities::{CompressionFactor, CalorificValue, Density, RelativeDensity, WobbeIndex};
+use super::quantities::CalorificValue;
+use super::quantities::CompressionFactor;
+use super::quantities::Density;
+use super::quantities::RelativeDensity;
+use super::quantities::WobbeIndex;
 
 // A number for 0, 15 or 20 °C metering.
 pub fn for_metering(at_0: u64, at_15: u64, at_20: u64, metering: u8) -> u64
@@ -46,7 +49,10 @@ pub fn compression_factor(s: i64) -> CompressionFactor
     ensures { λ r. ⌜ r .value ≡ compression (tenth s) ⌝ }
 {
     let s9 = rounding::nearest_signed(s, 10);
-    CompressionFactor::new(rounding::nearest(1000000000000000000 - square(s9), CompressionFactor::SCALE))
+    CompressionFactor::new(rounding::nearest(
+        1000000000000000000 - square(s9),
+        CompressionFactor::SCALE,
+    ))
 }
 
 // The real value of a quantity from its ideal one.
@@ -83,7 +89,7 @@ pub fn density(m: u64, divisor: u64, z: CompressionFactor) -> Density
 
 // 5. The relative density.
 pub fn relative_density(m: u64, air: u64, z: CompressionFactor) -> RelativeDensity
-    requires { ⌜ (m ≤ 800000000000) × (air ≤ 99963) × (724000000 ≤ z .value) ⌝ }
+    requires { ⌜ (m ≤ 800000000000) × (air ≤ 100000) × (724000000 ≤ z .value) ⌝ }
     ensures { λ r. ⌜ r .value ≡ real (idealRelative m air) (z .value) ⌝ }
 {
     RelativeDensity::new(real(rounding::nearest(m * air, 289626000), z))
@@ -91,7 +97,7 @@ pub fn relative_density(m: u64, air: u64, z: CompressionFactor) -> RelativeDensi
 
 // 6. The Wobbe index.
 pub fn wobbe_index(hs: CalorificValue, d: RelativeDensity) -> WobbeIndex
-    requires { ⌜ (hs .value ≤ 242000000) × (27600000 ≤ d .value) × (d .value ≤ 385000000) ⌝ }
+    requires { ⌜ (hs .value ≤ 242000000) × (27590000 ≤ d .value) × (d .value ≤ 385000000) ⌝ }
     ensures { λ r. ⌜ r .value ≡ wobbe (hs .value) (rootOf (d .value)) ⌝ }
 {
     let r = rounding::integer_root(d.value() * 10000000000);

@@ -4,9 +4,8 @@ ghost use Prim.Native.Nat.{_≤_};
 ghost use Rattle.records.specs.Format.{contents};
 ghost use Rattle.records.specs.Accepted.{Acceptable};
 ghost use Rattle.properties.specs.Chain.{combustionPlace, meteringPlace, HmSuperior, HmInferior, M, S};
-
-use components::Sums;
 use super::steps;
+use components::Sums;
 
 // The place of a combustion temperature among 25, 20, 15 and 0 °C.
 fn combustion_place(combustion: u8) -> usize

@@ -7,5 +7,6 @@ mod Digits
 mod Entries
 pub mod ReadLaws
 pub mod Accepted
+pub mod FirstBytes
 pub mod Cases
 mod Numbers

@@ -1,9 +1,10 @@
 -- What the calls on a record give, for every input: the number of the first condition that holds, or the answer.
+use mathlib.Core.Path.{_≡_}
 use mathlib.Core.List.{List}
-use Prim.Native.Nat.{ℕ}
-use lib.ListN.{length}
+use Prim.Native.Nat.{ℕ, _+_}
+use lib.ListN.{length, take}
 use Rattle.records.specs.Order.{Outcome, firstOf, decided}
-use Rattle.records.specs.Format.{Contents, contentsIn, bytesOf, placed}
+use Rattle.records.specs.Format.{Contents, recordLength, contentsIn, bytesOf, placed}
 use Rattle.records.specs.Conditions.{recordOrder, writerOrder, rewriteOrder}
 
 -- reading a list of bytes: the contents of the record
@@ -17,3 +18,11 @@ writingOf k old = decided (firstOf (writerOrder k (length old))) (placed old 0 (
 -- reading a list of bytes and writing the record again: the reader's conditions, then 20; the buffer gets the record's own bytes
 abbrev pub rewritingOf : List ℕ → List ℕ → Outcome (List ℕ)
 rewritingOf bs old = decided (firstOf (rewriteOrder bs (length old))) (placed old 0 bs)
+
+-- one byte more than the longest record, of 55 entries
+abbrev pub enough : ℕ
+enough = recordLength 55 + 1
+
+-- so many bytes decide what reading gives: a reader of a longer input need not go on
+abbrev pub FirstBytesDecide : Type 0
+FirstBytesDecide = (bs : List ℕ) → readingOf (take enough bs) ≡ readingOf bs

@@ -112,9 +112,9 @@ loop-again c =
     let b = c1 .before in
     let inv = at b .loop .inv in
     let next : (column bits : ℕ) → Summed column (lines b) (fractions b) (toZ w64 bits) (at b .loop .i) → (r : ℤ) → SFits w64 r
-        → r ≡ toZ w64 bits +ℤ pos (getD (fractions b) (at b .loop .i) 0) *ℤ entryOf (line b) column
-        → Summed column (lines b) (fractions b) (toZ w64 (ofZ w64 r)) (at b .loop .i + 1) =
-        λ column bits i. turned column (lines b) (fractions b) bits (at b .loop .i) i (start b .pre .1 .0) (here b) in
+    → r ≡ toZ w64 bits +ℤ pos (getD (fractions b) (at b .loop .i) 0) *ℤ entryOf (line b) column
+    → Summed column (lines b) (fractions b) (toZ w64 (ofZ w64 r)) (at b .loop .i + 1) =
+    λ column bits i. turned column (lines b) (fractions b) bits (at b .loop .i) i (start b .pre .1 .0) (here b) in
     record {
       superior = next (superior (start b .args .t)) (at b .loop .superior) (inv .superior) (c1 .add-entry .result) (sfits-of (c1 .add-entry .ok)) (c1 .add-entry .ensures);
       inferior = next (inferior (start b .args .t)) (at b .loop .inferior) (inv .inferior) (c2 .add-entry2 .result) (sfits-of (c2 .add-entry2 .ok)) (c2 .add-entry2 .ensures);

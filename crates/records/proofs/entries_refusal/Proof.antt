@@ -66,10 +66,9 @@ same-length-2 c = search needs
 
 returns : tie.Need-returns
 returns c =
-    let e = c .before .before .before .before .before .before .before in
-    (
+    let e = c .before .before .before .before .before .before .before in (
       passes (headOrder (bytes e)) (contentOrder (linesIn (bytes e)) (fractionsIn (bytes e))) tt refl (begin e .pre .0)
-      (c .content-refusal .ensures ∙ rw (lines e .is, fractions e .is)),
+          (c .content-refusal .ensures ∙ rw (lines e .is, fractions e .is)),
       e .read-entries .ensures,
     )
 

@@ -40,12 +40,15 @@ unfolding HmSuperior HmInferior M S
 returns c =
     let b = c .before in
     let t = b .before .combustion-place .ensures .0 in
-    let e = c .sums-of .ensures in
-    (
+    let e = c .sums-of .ensures in (
       amount-is (gas b) (good b) (ap superior t) _ (e .0),
-      (amount-is (gas b) (good b) (ap inferior t) _ (e .1 .0),
-      (amount-is (gas b) (good b) refl _ (e .1 .1 .0),
-      e .1 .1 .1 ∙ ap (λ (k : ℕ). sumOf (summation k) (gas b .lines) (gas b .fractions)) (b .metering-place .ensures .0) ∙ sym (over-entries (gas b) (good b) _))),
+      (
+        amount-is (gas b) (good b) (ap inferior t) _ (e .1 .0),
+        (
+          amount-is (gas b) (good b) refl _ (e .1 .1 .0),
+          e .1 .1 .1 ∙ ap (λ (k : ℕ). sumOf (summation k) (gas b .lines) (gas b .fractions)) (b .metering-place .ensures .0) ∙ sym (over-entries (gas b) (good b) _),
+        ),
+      ),
     )
 
 pub sums-of-spec : {M : Type 1} → statement M
