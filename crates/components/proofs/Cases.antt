@@ -1,7 +1,7 @@
 -- Worked numbers that the definitions compute: the sums of annex D of source document 002, and line 23 at 25 °C (K10 of document 01).
 use mathlib.Core.Path.{_≡_, refl}
 use mathlib.Core.List.{List, [], _∷_}
-use Prim.Native.Nat.{ℕ, _*_}
+use Prim.Native.Nat.{ℕ}
 use lib.IntN.{pos, negsuc, _*ℤ_, _-ℤ_}
 use Rattle.components.specs.Table.{componentTable, entryOf, molarMass, summation, superior, inferior}
 use Rattle.components.specs.Rule.{hydrogenAtoms, atomsOf, water}

@@ -56,9 +56,6 @@ summation-below k h l =
 pub entry-fits : (l c : ℕ) → SFits w32 (entryOf l c)
 entry-fits l c = record { sfits = lt-of-le-of-lt (mag≤ (entryOf l c)) (omega (arith, entry-below l c)) }
 
-pub unsigned-column : (c : ℕ) → Unsigned c → c < 12
-unsigned-column c u = ⊎-elim (λ e. rw e (omega arith)) (λ h. h .1) u
-
 -- no molar mass and no h is below 0
 mass-unsigned : List ℤ → Bool
 mass-unsigned row = nonNeg (getD row molarMass (pos 0))

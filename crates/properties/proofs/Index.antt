@@ -1,9 +1,9 @@
 -- The Wobbe index: the distance of W from Hs / √d, both exact, by cross multiplication.
 use mathlib.Core.Path.{_≡_, ap}
-use Prim.Native.Nat.{ℕ, _+_, _*_, _-_, _^_, _≤_, _<_}
+use Prim.Native.Nat.{ℕ, _+_, _*_, _-_, _^_, _≤_}
 use native.Mathlib.Nat.{mul-le-mul-right, mul-le-mul}
 use native.Mathlib.Omega.{arith}
-use Rattle.rounding.specs.Fraction.{Fraction, Within, _over_, half, whole}
+use Rattle.rounding.specs.Fraction.{Within, _over_, half, whole}
 use Rattle.rounding.specs.Root.{Root}
 use Rattle.properties.specs.Distances.{Indexed}
 

@@ -1,5 +1,4 @@
 -- The answers of the call on a record: document 01's number, or the six properties, for each case.
-use Prim.Native.Nat.{ℕ}
 use Rattle.records.specs.Order.{Outcome, refused, accepted}
 use Rattle.properties.specs.declared.Properties.{Properties}
 use Rattle.properties.specs.declared.Answer.{Answer}

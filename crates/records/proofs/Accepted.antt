@@ -9,7 +9,7 @@ use lib.Dec.{ltb}
 use lib.ListN.{length, getD, drop}
 use Rattle.components.specs.Composition.{Ascending, total}
 use Rattle.records.specs.Order.{firstOf}
-use Rattle.records.specs.Format.{Contents, entriesAt, countIn, linesIn, fractionsIn, contentsIn}
+use Rattle.records.specs.Format.{entriesAt, countIn, linesIn, fractionsIn, contentsIn}
 use Rattle.records.specs.Conditions.{lineBreaks, contentOrder, recordOrder}
 use Rattle.records.specs.Accepted.{Acceptable, AcceptedIsAcceptable}
 use Rattle.records.proofs.OrderLaws.{unmet, neither, decided-accepted}

@@ -1,18 +1,18 @@
 -- The first bytes of an input decide what reading it gives.
 use mathlib.Core.Path.{_≡_, refl, sym, ap, subst, _∙_}
-use mathlib.Core.Bool.{Bool, true, false, not, _||_}
-use mathlib.Core.List.{List, [], _∷_}
-use Prim.Native.Nat.{ℕ, _+_, _*_, _≤_, _<_}
+use mathlib.Core.Bool.{Bool, true, false, not}
+use mathlib.Core.List.{List}
+use Prim.Native.Nat.{ℕ, _≤_, _<_}
 use native.Mathlib.Nat.{lt-of-not-le}
 use native.Mathlib.Decide.{decLe}
 use native.Mathlib.Omega.{arith}
 use borrow.Author.Tests.{le-ltb, ltb-false, ne-eqb}
-use lib.Dec.{eqb, ltb}
+use lib.Dec.{eqb}
 use lib.ListN.{length, getD, take}
 use lib.Seq.{take-all, getD-take, length-take-le}
 use Rattle.records.specs.Order.{firstOf, refused, decided}
 use Rattle.records.specs.Format.{recordLength, combustionIn, meteringIn, countIn, linesIn, fractionsIn, contentsIn}
-use Rattle.records.specs.Conditions.{markDiffers, versionDiffers, pairRefused, countOutside, lengthDiffers, fieldsOrder, headOrder, contentOrder, recordOrder}
+use Rattle.records.specs.Conditions.{markDiffers, versionDiffers, pairRefused, countOutside, lengthDiffers, fieldsOrder, headOrder, contentOrder}
 use Rattle.records.specs.Calls.{readingOf, enough, FirstBytesDecide}
 use Rattle.records.proofs.OrderLaws.{stops, refuses, neither}
 

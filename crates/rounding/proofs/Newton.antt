@@ -6,11 +6,11 @@ use Prim.Native.Nat.{ℕ, suc, _+_, _*_, _-_, _/_, _^_, _≤_, _<_}
 use native.Mathlib.Omega.{arith}
 use native.Mathlib.Nat.{mul-le-mul, mul-le-mul-left, mul-le-mul-right, lt-of-not-le, lt-mul-div-succ, div-lt-iff-lt-mul}
 use native.Mathlib.Decide.{decLe}
-use borrow.Author.Tests.{eq-eqb, ne-eqb, ltb-true, ltb-false}
+use borrow.Author.Tests.{eq-eqb, ne-eqb, ltb-true}
 use lib.Dec.{eqb, ltb}
 use lib.Pow.{pow-add, pow-mono}
 use Rattle.rounding.specs.Root.{Root, root, nextCandidate, firstCandidate, roundsFrom, rootRounds}
-use Rattle.rounding.proofs.RootLaws.{below-of-squares, root-is, root-unique, root-greatest}
+use Rattle.rounding.proofs.RootLaws.{below-of-squares, root-is, root-greatest}
 
 -- a product is at most the square of the mean
 ordered : (c e r : ℕ) → 2 * c + e ≤ 2 * r → c * (c + e) ≤ r * r

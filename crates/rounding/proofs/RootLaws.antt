@@ -1,5 +1,4 @@
--- `root` is the integer root of every number below 2^64, and there is only one.
-use mathlib.Core.Path.{_≡_}
+-- `root` is the integer root of every number below 2^64, and no number with a square up to n is greater than the root of n.
 use Prim.Native.Nat.{ℕ, zero, suc, _+_, _*_, _^_, _≤_, _<_}
 use native.Mathlib.Omega.{arith}
 use native.Mathlib.Nat.{mul-le-mul, lt-of-not-le, pow-suc}
@@ -19,9 +18,6 @@ below-of-squares a b n h k = either (decLe b a)
 
 pub root-greatest : {n r : ℕ} → Root r n → (k : ℕ) → k * k ≤ n → k ≤ r
 root-greatest {n} {r} h k l = omega (arith, below-of-squares k (r + 1) n l (h .next))
-
-pub root-unique : {n r s : ℕ} → Root r n → Root s n → r ≡ s
-root-unique h k = omega (arith, root-greatest h _ (k .square), root-greatest k _ (h .square))
 
 rootFrom-is : (k n c : ℕ) → c * c ≤ n → n < (c + 2 ^ k) * (c + 2 ^ k) → Root (rootFrom k n c) n
 unfolding rootFrom

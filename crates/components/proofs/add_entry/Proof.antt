@@ -1,8 +1,7 @@
 -- The number read from the table is the definition's.
-use mathlib.Core.Path.{_≡_, ap, _∙_}
+use mathlib.Core.Path.{_≡_, _∙_}
 use borrow.Author.Needs.{needs, sfits-of}
-use lib.IntN.{ℤ, pos, _+ℤ_, _*ℤ_}
-use mir.Syntax.{w32, w64}
+use mir.Syntax.{w32}
 use mir.Val.{toZ, ofZ}
 use mir.Facts.{toZ-ofZ}
 use Rattle.components.specs.Table.{entryOf}

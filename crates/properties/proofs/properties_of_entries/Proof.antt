@@ -6,7 +6,7 @@ use native.Mathlib.Omega.{arith}
 use lib.ListN.{take}
 use borrow.Author.Needs.{needs}
 use Rattle.records.specs.Order.{firstOf, accepted}
-use Rattle.records.specs.Format.{Contents, contents, combustionIn, meteringIn, countIn, linesIn, fractionsIn, contentsIn}
+use Rattle.records.specs.Format.{contents, combustionIn, meteringIn, countIn, linesIn, fractionsIn, contentsIn}
 use Rattle.records.specs.Conditions.{recordOrder}
 use Rattle.records.specs.Accepted.{Acceptable}
 use Rattle.records.proofs.Heads.{Head, head}

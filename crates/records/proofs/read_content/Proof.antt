@@ -1,5 +1,5 @@
 -- The entries' number, or the contents in the two arrays.
-use mathlib.Core.Path.{_≡_, sym, _∙_}
+use mathlib.Core.Path.{sym, _∙_}
 use native.Mathlib.Omega.{arith}
 use borrow.Author.Needs.{needs}
 use Rattle.records.proofs.Heads.{Head, head}

@@ -1,7 +1,6 @@
 -- Each return is one case of `firstCandidate`.
 use borrow.Author.Needs.{needs}
 use borrow.Author.Tests.{lt-ltb, le-ltb}
-use native.Mathlib.Omega.{arith}
 use Rattle.rounding.specs.Root.{nextCandidate, firstCandidate}
 use Rattle.rounding.proofs.first_candidate.Statement.{statement}
 use Rattle.rounding.proofs.first_candidate.Tie as tie
