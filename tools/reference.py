@@ -53,11 +53,12 @@ def methane_and(*others):
 ANNEX_D = list(zip([1, 2, 3, 4, 5, 6, 52, 54], [924700, 35000, 9800, 2200, 3400, 600, 17500, 6800]))
 HYDROGEN = methane_and((41, 50000))
 HEAVY = methane_and(*[(line, 50000) for line in range(8, 18)])
+AT_HALF = methane_and((4, 14351), (16, 41306))
+BELOW_HALF = methane_and((16, 9403))
 EVERY_LINE = list(zip(range(1, 56), [973300] + [500] * 40 + [200] + [500] * 13))
 
 # title, name in Cases.antt, pair, gas
 GASES = [
-    ("annex D 15/15, K1", "annexD", 15, 15, ANNEX_D),
     ("annex D 0/0", "annexD", 0, 0, ANNEX_D),
     ("annex D 15/0", "annexD", 15, 0, ANNEX_D),
     ("annex D 25/0", "annexD", 25, 0, ANNEX_D),
@@ -66,10 +67,21 @@ GASES = [
     ("hydrogen 15/15", "hydrogen", 15, 15, HYDROGEN),
     ("hydrogen 25/0", "hydrogen", 25, 0, HYDROGEN),
     ("heavy 0/0", "heavy", 0, 0, HEAVY),
+    ("at a half 25/0", "atHalf", 25, 0, AT_HALF),
+    ("below a half 15/15", "belowHalf", 15, 15, BELOW_HALF),
     ("every line 25/20", "everyLine", 25, 20, EVERY_LINE),
+]
+# of the types in crates/properties/src/quantities.rt, in this order: SCALE and BOUND
+QUANTITIES = [
+    ("compression factor", 10**9, 1000000000),
+    ("calorific value", 10**6, 250000000),
+    ("density", 10**8, 510000000),
+    ("relative density", 10**8, 390000000),
+    ("Wobbe index", 10**6, 470000000),
 ]
 # title, and a gas at 15/15 or the number of its refusal, as document 01 has it
 CASES = [
+    ("K1", ANNEX_D),
     ("K2", methane_and()),
     ("K3, 999,900", [(1, 999900)]),
     ("K3, 1,000,100", [(1, 1000100)]),
@@ -110,6 +122,8 @@ def output():
             yield f"refused {answer}"
         else:
             yield from (f"{name} {number}" for name, number in zip(["Z", "Hs", "Hi", "rho", "d", "W"], answer))
+    for name, scale, bound in QUANTITIES:
+        yield f"{name} {scale} {bound}"
 
 
 if __name__ == "__main__":

@@ -7,17 +7,6 @@ use Rattle.rounding.specs.Fraction.{Fraction, Within, _over_, half, whole}
 use Rattle.rounding.proofs.NearLaws.{near-half, at-most, at-least}
 use Rattle.properties.specs.Unrounded.{tenth, compression, real}
 
--- a distance in hundredths may be taken larger
-pub within-half : {v : ℕ} {x : Fraction} (e : ℕ) → 50 ≤ e → Within half v x → Within (e over 100) v x
-within-half {v} {x} e l w =
-    let more = mul-le-mul-right (x .den) l in
-    record { proper = (w .proper .0, omega arith); below = omega (arith, more, w .below); above = omega (arith, more, w .above) }
-
-pub within-two : {v : ℕ} {x : Fraction} (e : ℕ) → e ≤ 200 → Within (e over 100) v x → Within (whole 2) v x
-within-two {v} {x} e l w =
-    let more = mul-le-mul-right (x .den) l in
-    record { proper = (w .proper .0, omega arith); below = omega (arith, more, w .below); above = omega (arith, more, w .above) }
-
 -- The quotient of two approximations: I is N/D to e hundredths, Z is P/R to f hundredths, and Q is I × K / Z rounded. Then Q is within
 -- 2 of N × K × R / (D × P), where Z is large enough beside Q.
 pub quotient : (e f K N D I P R Z Q : ℕ)
@@ -83,9 +72,6 @@ module _ (U X s : ℕ) (big : X ≤ 5250000000 * U) (near-s : Within (6 over 10)
 
   pub z-low : 724000000 ≤ z
   z-low = at-least near-z (omega (arith, square))
-
-  pub z-high : z ≤ 10 ^ 9
-  z-high = at-most near-z (omega arith)
 
   -- without the difference, so that it can be multiplied
   below-z : 2 * (10 ^ 9 * z) + 2 * (s * s) ≤ 2 * 10 ^ 18 + 10 ^ 9

@@ -1,14 +1,17 @@
 -- The gas of every accepted record: its sums and steps within their bounds, its properties below their ceilings and within their
 -- distances.
-use mathlib.Core.Path.{_≡_, ap}
+use mathlib.Core.Path.{_≡_, refl, ap}
+use mathlib.Core.Logic.{inl, inr}
 use Prim.Native.Nat.{ℕ, _*_, _^_, _≤_}
 use native.Mathlib.Omega.{arith}
 use lib.IntN.{pos, natAbs}
 use Rattle.rounding.specs.Fraction.{Within, _over_, half, whole}
 use Rattle.rounding.proofs.NearLaws.{nearZ-half}
-use Rattle.components.specs.Table.{superior, inferior, Heat}
+use Rattle.rounding.proofs.FractionLaws.{within-wider, within-one}
+use Rattle.components.specs.Table.{superior, inferior, Heat, Unsigned}
 use Rattle.components.specs.Composition.{sumOf, overLines}
 use Rattle.components.specs.Bounds.{Bounds}
+use Rattle.components.proofs.SumLaws.{sum-is-sizes}
 use Rattle.components.proofs.AllLines.{sums-run-over-all-lines}
 use Rattle.components.proofs.Bounds.{bounds}
 use Rattle.records.specs.Order.{mapped}
@@ -18,10 +21,10 @@ use Rattle.records.proofs.Accepted.{accepted-is-acceptable}
 use Rattle.properties.specs.Chain.{combustionPlace, T, D, HmSuperior, HmInferior, M, S, S9, Z, Hs, Hi, rho, A, G, d, r, W, idealCalorific, idealDensity, real, sixOf}
 use Rattle.properties.specs.Unrounded as unrounded
 use Rattle.properties.specs.Quantities.{Bounded}
-use Rattle.properties.specs.Distances.{Indexed, Distances, EveryAcceptedRecord}
-use Rattle.properties.proofs.Approximations.{within-half, within-two, z-low, z-high, z-within, real-within}
+use Rattle.properties.specs.Distances.{Amounts, Indexed, Distances, EveryAcceptedRecord}
+use Rattle.properties.proofs.Approximations.{z-low, z-within, real-within}
 use Rattle.properties.proofs.Index.{indexed}
-use Rattle.properties.proofs.StepBounds.{one-unit, temperature-low, temperature-high, air-low, air-high, metering-place, combustion-place, calorific-near, ideal-calorific-high, ideal-calorific-low, density-near, ideal-density-high, relative-near, ideal-relative-high, ideal-relative-low, real-high, real-low, root-of, root-low, wobbe-near, wobbe-high, wobbe-low}
+use Rattle.properties.proofs.StepBounds.{compression-high, temperature-low, temperature-high, air-low, air-high, metering-place, combustion-place, calorific-near, ideal-calorific-high, ideal-calorific-low, density-near, ideal-density-high, relative-near, ideal-relative-high, ideal-relative-low, real-high, real-low, root-of, root-low, wobbe-near, wobbe-high, wobbe-low}
 
 pub heats : (c : ℕ) → Heat (superior (combustionPlace c)) × Heat (inferior (combustionPlace c))
 heats c = let h = combustion-place c in ((omega arith, omega arith), (omega arith, omega arith))
@@ -34,6 +37,16 @@ module _ (k : Contents) (a : Acceptable k) where
   -- a sum that the code has made over the entries, as the chain's sum
   pub amount-is : {c c' : ℕ} → c ≡ c' → (n : ℕ) → pos n ≡ sumOf c (k .lines) (k .fractions) → n ≡ natAbs (overLines c' 55 (k .lines) (k .fractions))
   amount-is e n h = rw (over-entries _, ← e) (ap natAbs h)
+
+  -- no sum of a column without numbers below 0 is below 0
+  not-negative : (c : ℕ) → Unsigned c → pos (natAbs (overLines c 55 (k .lines) (k .fractions))) ≡ overLines c 55 (k .lines) (k .fractions)
+  not-negative c u = rw (over-entries c, sum-is-sizes c u (k .lines) (k .fractions))
+
+  amounts : Amounts k
+  unfolding HmSuperior HmInferior M
+  amounts =
+      let h = heats (k .combustion) in
+      record { HmSuperior = not-negative _ (inr (h .0)); HmInferior = not-negative _ (inr (h .1)); M = not-negative _ (inl refl) }
 
   in-bounds : Bounds (k .lines) (k .fractions)
   in-bounds = bounds (k .lines) (k .fractions) (a .composition) (a .share)
@@ -82,7 +95,7 @@ module _ (k : Contents) (a : Acceptable k) where
   -- S9 and Z
   s9-within : Within (6 over 10) (natAbs (S9 k)) (unrounded.tenth (unrounded.S k))
   unfolding S9
-  s9-within = let h = nearZ-half (S k) 10 (omega arith) in record { proper = (omega arith, omega arith); below = omega (arith, h .below); above = omega (arith, h .above) }
+  s9-within = within-wider half (6 over 10) _ _ (omega arith) (omega arith) (nearZ-half (S k) 10 (omega arith))
 
   pub Z-low : 724000000 ≤ Z k
   unfolding Z
@@ -90,17 +103,17 @@ module _ (k : Contents) (a : Acceptable k) where
 
   Z-high : Z k ≤ 10 ^ 9
   unfolding Z
-  Z-high = z-high 1 (natAbs (S k)) (natAbs (S9 k)) (omega (arith, summation-high)) s9-within
+  Z-high = compression-high (natAbs (S9 k) * natAbs (S9 k))
 
   Z-within : Within (whole 2) (Z k) (unrounded.Z k)
   unfolding Z
-  Z-within = within-two 114 (omega arith) (z-within 1 (natAbs (S k)) (natAbs (S9 k)) (omega (arith, summation-high)) s9-within)
+  Z-within = within-wider (114 over 100) (whole 2) _ _ (omega arith) (omega arith) (z-within 1 (natAbs (S k)) (natAbs (S9 k)) (omega (arith, summation-high)) s9-within)
 
   -- a real quantity is within 2 of its unit: I is its ideal value, N / D the exact one
   real-of : (N D I : ℕ) → Within half I (N over D) → I ≤ 365000000 → Within (whole 2) (real I (Z k)) (unrounded.real (N over (1 * D)) (unrounded.Z k))
   unfolding Z
   real-of N D I h l =
-      real-within 1 (natAbs (S k)) (natAbs (S9 k)) (omega (arith, summation-high)) s9-within N (1 * D) I (within-half 51 (omega arith) (one-unit h)) l
+      real-within 1 (natAbs (S k)) (natAbs (S9 k)) (omega (arith, summation-high)) s9-within N (1 * D) I (within-wider half (51 over 100) _ _ (omega arith) (omega arith) (within-one h)) l
 
   superior-ideal : idealCalorific (HmSuperior k) (D k) ≤ 175000000
   superior-ideal = ideal-calorific-high (HmSuperior k) (D k) superior-high D-low
@@ -184,4 +197,4 @@ module _ (k : Contents) (a : Acceptable k) where
 
 pub every-accepted-record : EveryAcceptedRecord
 every-accepted-record bs k e =
-    let a = accepted-is-acceptable bs k e in record { answer = ap (mapped sixOf) e; bounded = bounded k a; within = distances k a }
+    let a = accepted-is-acceptable bs k e in record { answer = ap (mapped sixOf) e; amounts = amounts k a; bounded = bounded k a; within = distances k a }

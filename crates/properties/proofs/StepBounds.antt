@@ -45,10 +45,6 @@ combustion-place c = go (eqb c 25) (eqb c 20) (eqb c 15)
     go false false true = omega arith
     go false false false = omega arith
 
--- a fraction whose denominator is multiplied by 1
-pub one-unit : {v n q : ℕ} → Within half v (n over q) → Within half v (n over (1 * q))
-one-unit w = record { proper = (omega (arith, w .proper .0), omega arith); below = omega (arith, w .below); above = omega (arith, w .above) }
-
 -- ideal values
 module _ (Hm D : ℕ) where
   pub calorific-near : 0 < D → Within half (idealCalorific Hm D) ((Hm * 1013250) over D)

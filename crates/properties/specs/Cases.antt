@@ -8,7 +8,7 @@ use lib.ListN.{replicate}
 use Rattle.components.specs.Tests.{all}
 use Rattle.records.specs.Order.{accepted, mapped}
 use Rattle.records.specs.Format.{Contents, contents, bytesOf}
-use Rattle.records.specs.Cases.{sameOutcome, k2, fullGas, upFrom}
+use Rattle.records.specs.Cases.{sameOutcome, annexD, k2, fullGas, upFrom}
 use Rattle.properties.specs.Chain.{Six, propertiesOf}
 
 abbrev pub six : ℕ → ℕ → ℕ → ℕ → ℕ → ℕ → Six
@@ -16,10 +16,6 @@ six Z Hs Hi rho d W = record { Z = Z; Hs = Hs; Hi = Hi; rho = rho; d = d; W = W 
 
 abbrev pub sameSix : Six → Six → Bool
 sameSix p q = eqb (p .Z) (q .Z) && eqb (p .Hs) (q .Hs) && eqb (p .Hi) (q .Hi) && eqb (p .rho) (q .rho) && eqb (p .d) (q .d) && eqb (p .W) (q .W)
-
--- the gas of K1, annex D of source document 002, at a pair
-abbrev pub annexD : ℕ → ℕ → Contents
-annexD c m = contents c m (1 ∷ 2 ∷ 3 ∷ 4 ∷ 5 ∷ 6 ∷ 52 ∷ 54 ∷ []) (924700 ∷ 35000 ∷ 9800 ∷ 2200 ∷ 3400 ∷ 600 ∷ 17500 ∷ 6800 ∷ [])
 
 -- K1: the six properties as printed
 abbrev pub K1 : Type 0
@@ -29,22 +25,27 @@ K1 = propertiesOf (bytesOf (annexD 15 15)) ≡ accepted (six 997709976 38959473 
 abbrev pub K2 : Type 0
 K2 = mapped {B = ℕ × ℕ} (λ (p : Six). (p .Z, p .Hs)) (propertiesOf k2) ≡ accepted (998001910, 37781616)
 
--- methane with hydrogen; the least methane with ten heavy lines; every line
+-- methane with hydrogen; the least methane with ten heavy lines; gases for which S/10 is a half, and just below one; every line
 abbrev pub hydrogen : ℕ → ℕ → Contents
 hydrogen c m = contents c m (1 ∷ 41 ∷ []) (950000 ∷ 50000 ∷ [])
 
 abbrev pub heavy : ℕ → ℕ → Contents
 heavy c m = contents c m (1 ∷ upFrom 10 8) (500000 ∷ replicate 10 50000)
 
+abbrev pub atHalf : ℕ → ℕ → Contents
+atHalf c m = contents c m (1 ∷ 4 ∷ 16 ∷ []) (944343 ∷ 14351 ∷ 41306 ∷ [])
+
+abbrev pub belowHalf : ℕ → ℕ → Contents
+belowHalf c m = contents c m (1 ∷ 16 ∷ []) (990597 ∷ 9403 ∷ [])
+
 abbrev pub everyLine : ℕ → ℕ → Contents
 everyLine c m = contents c m (fullGas .lines) (fullGas .fractions)
 
--- Gases and their properties, at every permitted pair. The numbers are those of a second implementation of document 01, over a second
+-- Gases and their properties; with K1, the gas of annex D stands at every permitted pair. The numbers are those of a second implementation of document 01, over a second
 -- transcription of the table: `tools/reference.py rows` prints them.
 abbrev pub gases : List (Contents × Six)
 gases =
-    (annexD 15 15, six 997709976 38959473 35144879 74087496 60459367 50105024)
-    ∷ (annexD 0 0, six 997243032 41182289 37098339 78192597 60477389 52955853)
+    (annexD 0 0, six 997243032 41182289 37098339 78192597 60477389 52955853)
     ∷ (annexD 15 0, six 997243032 41118172 37092216 78192597 60477389 52873405)
     ∷ (annexD 25 0, six 997243032 41075912 37087983 78192597 60477389 52819064)
     ∷ (annexD 20 20, six 997826769 38270612 34539616 72815328 60455314 49220743)
@@ -52,6 +53,8 @@ gases =
     ∷ (hydrogen 15 15, six 998217049 36490978 32819889 64999239 53042863 50103957)
     ∷ (hydrogen 25 0, six 997851678 38468753 34631245 68593772 53053260 52814366)
     ∷ (heavy 0 0, six 947547549 133811348 123305978 270369180 209114709 92533855)
+    ∷ (atHalf 25 0, six 994384222 51025118 46337883 95485590 73852505 59374697)
+    ∷ (belowHalf 15 15, six 997565249 39904699 35995306 72488537 59154532 51883591)
     ∷ (everyLine 25 20, six 997700860 39004435 35244255 72051432 59821087 50429753)
     ∷ []
 

@@ -75,10 +75,10 @@ module _ (k : Contents) where
   D = divisor T
 
   -- a sum runs over all lines
-  abbrev sum : ℕ → ℤ
+  abbrev pub sum : ℕ → ℤ
   sum column = overLines column 55 (k .lines) (k .fractions)
 
-  -- 1. Hm, superior and inferior, unit 10^-9 kJ/mol, and M, unit 10^-10 kg/kmol: columns with no number below 0
+  -- 1. Hm, superior and inferior, unit 10^-9 kJ/mol, and M, unit 10^-10 kg/kmol, as sizes: no such sum is below 0 (`Amounts`)
   unfoldable pub HmSuperior : ℕ
   HmSuperior = natAbs (sum (superior (combustionPlace (k .combustion))))
 

@@ -28,7 +28,7 @@ impl CompressionFactor {
     }
 }
 
-// A calorific value, unit J/m³; scale of MJ/m³.
+// A calorific value, unit J/m³. SCALE of them make 1 MJ/m³.
 pub struct CalorificValue {
     value: u64,
 }
@@ -52,7 +52,7 @@ impl CalorificValue {
     }
 }
 
-// A density, unit 10^-8 kg/m³; scale of kg/m³.
+// A density, unit 10^-8 kg/m³. SCALE of them make 1 kg/m³.
 pub struct Density {
     value: u64,
 }
@@ -100,7 +100,7 @@ impl RelativeDensity {
     }
 }
 
-// A Wobbe index, unit J/m³; scale of MJ/m³.
+// A Wobbe index, unit J/m³. SCALE of them make 1 MJ/m³.
 pub struct WobbeIndex {
     value: u64,
 }

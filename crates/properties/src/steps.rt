@@ -63,7 +63,7 @@ fn real(ideal: u64, z: CompressionFactor) -> u64
     rounding::nearest(ideal * CompressionFactor::SCALE, z.value())
 }
 
-// 3. The ideal calorific value, J/m³. It takes the sum of every line of the table, pure.
+// 3. The ideal calorific value, J/m³. Hm may be that of any single line at 1,000,000.
 pub fn ideal_calorific_value(hm: u64, divisor: u64) -> u64
     requires { ⌜ (hm ≤ 10000000000000) × (0 < divisor) ⌝ }
     ensures { λ r. ⌜ r ≡ idealCalorific hm divisor ⌝ }

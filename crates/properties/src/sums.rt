@@ -1,6 +1,5 @@
 // 1. The sums of a composition over the component table.
 ghost use mathlib.Core.Path.{_≡_};
-ghost use Prim.Native.Nat.{_≤_};
 ghost use Rattle.records.specs.Format.{contents};
 ghost use Rattle.records.specs.Accepted.{Acceptable};
 ghost use Rattle.properties.specs.Chain.{combustionPlace, meteringPlace, HmSuperior, HmInferior, M, S};
@@ -9,7 +8,7 @@ use components::Sums;
 
 // The place of a combustion temperature among 25, 20, 15 and 0 °C.
 fn combustion_place(combustion: u8) -> usize
-    ensures { λ r. ⌜ (r ≡ combustionPlace combustion) × (r ≤ 3) ⌝ }
+    ensures { λ r. ⌜ r ≡ combustionPlace combustion ⌝ }
 {
     if combustion == 25 {
         return 0;
@@ -25,7 +24,7 @@ fn combustion_place(combustion: u8) -> usize
 
 // The place of a metering temperature among 0, 15 and 20 °C.
 fn metering_place(metering: u8) -> usize
-    ensures { λ r. ⌜ (r ≡ meteringPlace metering) × (r ≤ 2) ⌝ }
+    ensures { λ r. ⌜ r ≡ meteringPlace metering ⌝ }
 {
     steps::for_metering(0, 1, 2, metering) as usize
 }

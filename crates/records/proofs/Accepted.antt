@@ -14,7 +14,7 @@ use Rattle.records.specs.Conditions.{lineBreaks, contentOrder, recordOrd
 use Rattle.records.specs.Accepted.{Acceptable, AcceptedIsAcceptable}
 use Rattle.records.proofs.OrderLaws.{unmet, neither, decided-accepted}
 use Rattle.records.proofs.Entries.{length-lines, length-fractions}
-use Rattle.records.proofs.RoundTrips.{accepted-head, accepted-content}
+use Rattle.records.proofs.RoundTrips.{accepted-content}
 
 ascends : (before : ℕ) (ls : List ℕ) → lineBreaks before ls ≡ false → Ascending before ls
 unfolding lineBreaks Ascending
@@ -36,13 +36,11 @@ acceptable bs h =
     let sum = neither (ltb (total (fractionsIn bs)) 999900) _ (o 9) in
     let up = ascends 0 (linesIn bs) (o 7) in
     record {
-      pair = accepted-head bs h .pair;
       composition = record {
         same = length-lines (countIn bs) (drop entriesAt bs) ∙ sym (length-fractions (countIn bs) (drop entriesAt bs));
         lines = in-table 0 (linesIn bs) up;
         sum = ltb-false _ _ (sum .1);
       };
-      least = ltb-false _ _ (sum .0);
       ascending = up;
       share = ltb-false _ _ (o 10);
     }

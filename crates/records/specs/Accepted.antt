@@ -1,20 +1,16 @@
--- What holds of the contents of every accepted record, as the crates above use it.
+-- What the calculation of properties needs of a composition, and what every accepted record gives it.
 use mathlib.Core.Path.{_≡_}
-use mathlib.Core.Bool.{true}
 use mathlib.Core.List.{List}
 use Prim.Native.Nat.{ℕ, _≤_}
-use Rattle.components.specs.Composition.{Composition, Ascending, total, fractionFor}
+use Rattle.components.specs.Composition.{Composition, Ascending, fractionFor}
 use Rattle.records.specs.Order.{accepted}
 use Rattle.records.specs.Format.{Contents}
-use Rattle.records.specs.Conditions.{permitted, methane}
+use Rattle.records.specs.Conditions.{methane}
 use Rattle.records.specs.Calls.{readingOf}
 
 pub record Acceptable (k : Contents) : Type 0 where
-  -- the pair is permitted
-  pub pair : permitted (k .combustion) (k .metering) ≡ true
-  -- its lines are lines of the table, and its fractions add up to 999,900 to 1,000,100
+  -- its lines are lines of the table, and its fractions add up to at most 1,000,100
   pub composition : Composition (k .lines) (k .fractions)
-  pub least : 999900 ≤ total (k .fractions)
   -- each line number is above the one before
   pub ascending : Ascending 0 (k .lines)
   -- methane is at its house limit or above it

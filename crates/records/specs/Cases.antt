@@ -45,6 +45,10 @@ caseHolds c =
 abbrev pub given : Contents → ℕ → Case
 given k n = record { contents = k; bytes = bytesOf k; number = n }
 
+-- the gas of K1, annex D of source document 002, at a pair
+abbrev pub annexD : ℕ → ℕ → Contents
+annexD c m = contents c m (1 ∷ 2 ∷ 3 ∷ 4 ∷ 5 ∷ 6 ∷ 52 ∷ 54 ∷ []) (924700 ∷ 35000 ∷ 9800 ∷ 2200 ∷ 3400 ∷ 600 ∷ 17500 ∷ 6800 ∷ [])
+
 -- the record of K2, as printed
 abbrev pub k2 : List ℕ
 k2 = 0x47 ∷ 0x43 ∷ 0x52 ∷ 0x01 ∷ 0x00 ∷ 0x0F ∷ 0x0F ∷ 0x01 ∷ 0x01 ∷ 0x40 ∷ 0x42 ∷ 0x0F ∷ 0x00 ∷ []
@@ -52,7 +56,7 @@ k2 = 0x47 ∷ 0x43 ∷ 0x52 ∷ 0x01 ∷ 0x00 ∷ 0x0F ∷ 0x0F ∷ 0x01 ∷ 0x0
 -- K3 to K7, and the second of K8, name no pair: they stand at 15/15
 abbrev pub cases : List Case
 cases =
-    given (contents 15 15 (1 ∷ 2 ∷ 3 ∷ 4 ∷ 5 ∷ 6 ∷ 52 ∷ 54 ∷ []) (924700 ∷ 35000 ∷ 9800 ∷ 2200 ∷ 3400 ∷ 600 ∷ 17500 ∷ 6800 ∷ [])) 0  -- K1
+    given (annexD 15 15) 0  -- K1
     ∷ record { contents = contents 15 15 (1 ∷ []) (1000000 ∷ []); bytes = k2; number = 0 }  -- K2
     ∷ given (contents 15 15 (1 ∷ []) (999900 ∷ [])) 0  -- K3
     ∷ given (contents 15 15 (1 ∷ []) (1000100 ∷ [])) 0

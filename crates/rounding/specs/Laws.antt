@@ -38,6 +38,10 @@ WithinPlus = (t u v w : ℕ) (x y : Fraction) → Within (whole t) v x → Withi
 abbrev pub WithinTimes : Type 0
 WithinTimes = (k t v : ℕ) (x : Fraction) → Within (whole t) v x → Within (whole (k * t)) (k * v) (times k x)
 
+-- a distance may be taken larger
+abbrev pub WithinWider : Type 0
+WithinWider = (t u : Fraction) (v : ℕ) (x : Fraction) → 0 < u .den → t .num * u .den ≤ u .num * t .den → Within t v x → Within u v x
+
 -- root gives the integer root of every number below 2^64
 abbrev pub RootIs : Type 0
 RootIs = (n : ℕ) → n < 2 ^ 64 → Root (root n) n

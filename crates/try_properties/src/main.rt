@@ -1,6 +1,11 @@
 // Runs the compiled call on the gases of crates/properties/specs/Cases.antt, on K1 to K8 of document 01, and on the head of a record,
-// and prints what comes back. Each gas is written by the record writer first.
+// and prints what comes back; then the scale and the ceiling of each quantity. Each gas is written by the record writer first.
 use libc::STDOUT_FILENO;
+use properties::quantities::CalorificValue;
+use properties::quantities::CompressionFactor;
+use properties::quantities::Density;
+use properties::quantities::RelativeDensity;
+use properties::quantities::WobbeIndex;
 
 fn title(name: &[u8]) {
     io::write_all(STDOUT_FILENO, name);
@@ -59,7 +64,6 @@ fn every_line(name: &[u8], combustion: u8, metering: u8) {
 }
 
 fn gases() {
-    annex_d(b"annex D 15/15, K1", 15, 15);
     annex_d(b"annex D 0/0", 0, 0);
     annex_d(b"annex D 15/0", 15, 0);
     annex_d(b"annex D 25/0", 25, 0);
@@ -68,11 +72,20 @@ fn gases() {
     gas(b"hydrogen 15/15", 15, 15, &[1, 41], &[950000, 50000]);
     gas(b"hydrogen 25/0", 25, 0, &[1, 41], &[950000, 50000]);
     heavy(b"heavy 0/0", 0, 0);
+    gas(
+        b"at a half 25/0",
+        25,
+        0,
+        &[1, 4, 16],
+        &[944343, 14351, 41306],
+    );
+    gas(b"below a half 15/15", 15, 15, &[1, 16], &[990597, 9403]);
     every_line(b"every line 25/20", 25, 20);
 }
 
 // What the writer refuses leaves a buffer of 0, so the refused records of K3 to K8 stand here byte by byte.
 fn cases() {
+    annex_d(b"K1", 15, 15);
     title(b"K2");
     answer(b"\x47\x43\x52\x01\x00\x0F\x0F\x01\x01\x40\x42\x0F\x00");
     gas(b"K3, 999,900", 15, 15, &[1], &[999900]);
@@ -121,8 +134,39 @@ fn heads() {
     answer(b"\x47\x43\x52\x01\x00\x0F\x0F\x01\x01\x00\x00\x00\x00");
 }
 
+fn quantity(name: &[u8], scale: u64, bound: u64) {
+    io::write_all(STDOUT_FILENO, name);
+    io::write_all(STDOUT_FILENO, b" ");
+    io::print_decimal(STDOUT_FILENO, scale);
+    io::write_all(STDOUT_FILENO, b" ");
+    io::print_decimal(STDOUT_FILENO, bound);
+    io::write_all(STDOUT_FILENO, b"\n");
+}
+
+// The scale and the ceiling of each type.
+fn quantities() {
+    quantity(
+        b"compression factor",
+        CompressionFactor::SCALE,
+        CompressionFactor::BOUND,
+    );
+    quantity(
+        b"calorific value",
+        CalorificValue::SCALE,
+        CalorificValue::BOUND,
+    );
+    quantity(b"density", Density::SCALE, Density::BOUND);
+    quantity(
+        b"relative density",
+        RelativeDensity::SCALE,
+        RelativeDensity::BOUND,
+    );
+    quantity(b"Wobbe index", WobbeIndex::SCALE, WobbeIndex::BOUND);
+}
+
 fn main() {
     gases();
     cases();
     heads();
+    quantities();
 }

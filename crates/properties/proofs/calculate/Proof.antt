@@ -21,8 +21,8 @@ use Rattle.properties.proofs.calculate.Tie as tie
 stepped : (f : ℕ → ℕ → ℕ → ℕ) {v x y z x' y' z' : ℕ} → v ≡ f x y z → x ≡ x' → y ≡ y' → z ≡ z' → v ≡ f x' y' z'
 stepped f e ex ey ez = rw (← ex, ← ey, ← ez) e
 
-indexed : {v Hs d Hs' d' : ℕ} → v ≡ wobbe Hs (rootOf d) → Hs ≡ Hs' → d ≡ d' → v ≡ wobbe Hs' (rootOf d')
-indexed e eh ed = rw (← eh, ← ed) e
+stepped-index : {v Hs d Hs' d' : ℕ} → v ≡ wobbe Hs (rootOf d) → Hs ≡ Hs' → d ≡ d' → v ≡ wobbe Hs' (rootOf d')
+stepped-index e eh ed = rw (← eh, ← ed) e
 
 together : (p : Properties) (q : Six) → p .z .value ≡ q .Z → p .hs .value ≡ q .Hs → p .hi .value ≡ q .Hi → p .rho .value ≡ q .rho
     → p .d .value ≡ q .d → p .w .value ≡ q .W → numbers p ≡ q
@@ -131,7 +131,7 @@ module _ (c : tie.After-wobbe-index) where
 
   W-is : c .wobbe-index .result .value ≡ W (k z)
   unfolding W r
-  W-is = indexed (c .wobbe-index .ensures) (Hs-is (c .before)) (d-is (c .before))
+  W-is = stepped-index (c .wobbe-index .ensures) (Hs-is (c .before)) (d-is (c .before))
 
 returns : tie.Need-returns
 returns c = together _ _ (Z-is (z c)) (Hs-is (c .before)) (Hi-is c) (rho-is c) (d-is (c .before)) (W-is c)

@@ -1,7 +1,5 @@
--- The place is chosen, and fits.
+-- The place is chosen.
 use borrow.Author.Needs.{needs}
-use native.Mathlib.Omega.{arith}
-use Rattle.properties.proofs.StepBounds.{metering-place}
 use Rattle.properties.proofs.sums.metering_place.Statement.{statement}
 use Rattle.properties.proofs.sums.metering_place.Tie as tie
 
@@ -9,7 +7,7 @@ for-metering-requires : tie.Need-for-metering-requires
 for-metering-requires c κs = search needs
 
 returns : tie.Need-returns
-returns c = (c .for-metering .ensures, omega (arith, c .for-metering .ensures, metering-place (c .before .args .metering)))
+returns c = c .for-metering .ensures
 
 pub metering-place-spec : {M : Type 1} → statement M
 metering-place-spec = tie.close (tie.spec for-metering-requires returns)

@@ -8,6 +8,7 @@ use Rattle.components.specs.Composition.{sumOf}
 use Rattle.records.specs.Format.{Contents, contents}
 use Rattle.records.specs.Accepted.{Acceptable}
 use Rattle.properties.specs.Chain.{HmSuperior, HmInferior, M, S}
+use Rattle.properties.proofs.StepBounds.{combustion-place, metering-place}
 use Rattle.properties.proofs.Gas.{amount-is, over-entries}
 use Rattle.properties.proofs.sums.sums_of.Statement.{statement}
 use Rattle.properties.proofs.sums.sums_of.Tie as tie
@@ -32,21 +33,29 @@ metering-place-requires : tie.Need-metering-place-requires
 metering-place-requires c κs = search needs
 
 sums-of-requires : tie.Need-sums-of-requires
-sums-of-requires c κs =
-    (c .before .before .before .component-table .ensures, (good c .composition, (omega (arith, c .before .combustion-place .ensures .1), omega (arith, c .metering-place .ensures .1))))
+sums-of-requires c κs = (
+  c .before .before .before .component-table .ensures,
+  (
+    good c .composition,
+    (
+      omega (arith, c .before .combustion-place .ensures, combustion-place (start c .args .combustion)),
+      omega (arith, c .metering-place .ensures, metering-place (start c .args .metering)),
+    ),
+  ),
+)
 
 returns : tie.Need-returns
 unfolding HmSuperior HmInferior M S
 returns c =
     let b = c .before in
-    let t = b .before .combustion-place .ensures .0 in
+    let t = b .before .combustion-place .ensures in
     let e = c .sums-of .ensures in (
       amount-is (gas b) (good b) (ap superior t) _ (e .0),
       (
         amount-is (gas b) (good b) (ap inferior t) _ (e .1 .0),
         (
           amount-is (gas b) (good b) refl _ (e .1 .1 .0),
-          e .1 .1 .1 ∙ ap (λ (k : ℕ). sumOf (summation k) (gas b .lines) (gas b .fractions)) (b .metering-place .ensures .0) ∙ sym (over-entries (gas b) (good b) _),
+          e .1 .1 .1 ∙ ap (λ (k : ℕ). sumOf (summation k) (gas b .lines) (gas b .fractions)) (b .metering-place .ensures) ∙ sym (over-entries (gas b) (good b) _),
         ),
       ),
     )
