@@ -3,7 +3,7 @@ use Prim.Native.Nat.{ℕ, _+_, _*_, _-_, _^_, _≤_, _<_}
 use native.Mathlib.Nat.{mul-le-mul-right, mul-le-mul-left, mul-le-mul, mul-pos, le-of-mul-le-mul-right}
 use native.Mathlib.Omega.{arith}
 use Rattle.rounding.specs.Near.{near}
-use Rattle.rounding.specs.Fraction.{Fraction, Within, _over_, half, whole}
+use Rattle.rounding.specs.Fraction.{Within, _over_, half, whole}
 use Rattle.rounding.proofs.NearLaws.{near-half, at-most, at-least}
 use Rattle.properties.specs.Unrounded.{tenth, compression, real}
 

@@ -1,5 +1,5 @@
 -- Distances add up, are multiplied with what they measure, and may be taken larger.
-use Prim.Native.Nat.{ℕ, _+_, _*_, _≤_}
+use Prim.Native.Nat.{ℕ, _+_, _*_}
 use native.Mathlib.Nat.{mul-le-mul-right, mul-pos, le-of-mul-le-mul-right}
 use native.Mathlib.Omega.{arith}
 use Rattle.rounding.specs.Fraction.{Fraction, Within, _over_}
