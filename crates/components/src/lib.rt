@@ -42,7 +42,7 @@ fn add_entry(table: &[[i32; 12]; 55], sum: i64, line: u8, fraction: u32, column:
     add_product(sum, fraction, entry(table, line, column))
 }
 
-// Sums of fraction times column: h superior and h inferior, which have no number below 0, m, which has none, and s.
+// Sums of fraction times column: h superior, h inferior and m, which have no number below 0, and s.
 pub struct Sums {
     pub superior: u64,
     pub inferior: u64,

@@ -25,7 +25,7 @@ K1 = propertiesOf (bytesOf (annexD 15 15)) ≡ accepted (six 997709976 38959473 
 abbrev pub K2 : Type 0
 K2 = mapped {B = ℕ × ℕ} (λ (p : Six). (p .Z, p .Hs)) (propertiesOf k2) ≡ accepted (998001910, 37781616)
 
--- methane with hydrogen; the least methane with ten heavy lines; gases for which S/10 is a half, and just below one; every line
+-- methane with hydrogen; the least methane with ten heavy lines; gases for which S/10 ends in .5 and in .4; every line
 abbrev pub hydrogen : ℕ → ℕ → Contents
 hydrogen c m = contents c m (1 ∷ 41 ∷ []) (950000 ∷ 50000 ∷ [])
 
@@ -41,8 +41,8 @@ belowHalf c m = contents c m (1 ∷ 16 ∷ []) (990597 ∷ 9403 ∷ [])
 abbrev pub everyLine : ℕ → ℕ → Contents
 everyLine c m = contents c m (fullGas .lines) (fullGas .fractions)
 
--- Gases and their properties; with K1, the gas of annex D stands at every permitted pair. The numbers are those of a second implementation of document 01, over a second
--- transcription of the table: `tools/reference.py rows` prints them.
+-- Gases and their properties; with K1, the gas of annex D stands at every permitted pair. The numbers are those of a second
+-- implementation of document 01, over a second transcription of the table: `tools/reference.py rows` prints them.
 abbrev pub gases : List (Contents × Six)
 gases =
     (annexD 0 0, six 997243032 41182289 37098339 78192597 60477389 52955853)

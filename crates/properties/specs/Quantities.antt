@@ -11,7 +11,7 @@ use Rattle.properties.specs.Chain.{Six}
 abbrev pub scales : List ℕ
 scales = 10 ^ 9 ∷ 10 ^ 6 ∷ 10 ^ 6 ∷ 10 ^ 8 ∷ 10 ^ 8 ∷ 10 ^ 6 ∷ []
 
--- the ceilings of document 01
+-- the ceilings, which document 01 leaves to the program; docs/DECISIONS.md says how they were chosen
 abbrev pub compressionBound : ℕ
 compressionBound = 1000000000
 

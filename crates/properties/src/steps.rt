@@ -63,9 +63,9 @@ fn real(ideal: u64, z: CompressionFactor) -> u64
     rounding::nearest(ideal * CompressionFactor::SCALE, z.value())
 }
 
-// 3. The ideal calorific value, J/m³. Hm may be that of any single line at 1,000,000.
+// 3. The ideal calorific value, J/m³.
 pub fn ideal_calorific_value(hm: u64, divisor: u64) -> u64
-    requires { ⌜ (hm ≤ 10000000000000) × (0 < divisor) ⌝ }
+    requires { ⌜ (hm ≤ 3900000000000) × (0 < divisor) ⌝ }
     ensures { λ r. ⌜ r ≡ idealCalorific hm divisor ⌝ }
 {
     rounding::nearest(hm * 1013250, divisor)

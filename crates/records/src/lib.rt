@@ -67,7 +67,7 @@ pub fn read(bytes: &[u8]) -> Reading
     read_content(bytes)
 }
 
-// Where none of 1 to 6 holds: the entries into two arrays that hold 0, and the number of the first of 7 to 12 that holds.
+// Reads the entries into two arrays that hold 0, and gives the number of the first of 7 to 12 that holds, or 0. None of 1 to 6 may hold.
 pub fn entries_refusal(bytes: &[u8], lines: &mut [u8], fractions: &mut [u32]) -> u8
     requires { ⌜ firstOf (headOrder (now bytes)) ≡ 0 ⌝ }
     requires { ⌜ (now lines ≡ replicate 55 0) × (now fractions ≡ replicate 55 0) ⌝ }
