@@ -21,7 +21,8 @@ use Rattle.records.proofs.Accepted.{accepted-is-acceptable}
 use Rattle.properties.specs.Chain.{combustionPlace, T, D, HmSuperior, HmInferior, M, S, S9, Z, Hs, Hi, rho, A, G, d, r, W, idealCalorific, idealDensity, real, sixOf}
 use Rattle.properties.specs.Unrounded as unrounded
 use Rattle.properties.specs.Quantities.{Bounded}
-use Rattle.properties.specs.Distances.{Amounts, Indexed, Distances, EveryAcceptedRecord}
+use Rattle.properties.specs.Distances.{Indexed, Distances}
+use Rattle.properties.specs.Accepted.{Amounts, EveryAcceptedRecord}
 use Rattle.properties.proofs.Approximations.{z-low, z-within, real-within}
 use Rattle.properties.proofs.Index.{indexed}
 use Rattle.properties.proofs.StepBounds.{compression-high, temperature-low, temperature-high, air-low, air-high, metering-place, combustion-place, calorific-near, ideal-calorific-high, ideal-calorific-low, density-near, ideal-density-high, relative-near, ideal-relative-high, ideal-relative-low, real-high, real-low, root-of, root-low, wobbe-near, wobbe-high, wobbe-low}

@@ -1,4 +1,5 @@
 -- Bounds of the numbers of each step, from bounds of the numbers that it takes.
+use mathlib.Core.Path.{_≡_}
 use mathlib.Core.Bool.{Bool, true, false, cond}
 use Prim.Native.Nat.{ℕ, _*_, _-_, _^_, _≤_, _<_}
 use native.Mathlib.Nat.{mul-le-mul, mul-le-mul-left}
@@ -89,6 +90,10 @@ module _ (ideal Z : ℕ) (low : 724000000 ≤ Z) where
 
   pub real-low : Z ≤ 10 ^ 9 → (b : ℕ) → b ≤ ideal → b ≤ real ideal Z
   real-low high b h = at-least real-near (omega (arith, mul-le-mul-left b high))
+
+-- what a step has made of an ideal value that is at most `most` is at most b
+pub step-high : (most b : ℕ) {i ideal Z v : ℕ} → i ≡ ideal → ideal ≤ most → 724000000 ≤ Z → v ≡ real i Z → 1000 * most ≤ 724 * b → v ≤ b
+step-high most b {i} {ideal} {Z} e h low is fits = omega (arith, is, real-high i Z low b (omega arith))
 
 -- the index
 module _ (d : ℕ) (d-low : 27590000 ≤ d) (d-high : d ≤ 385000000) where

@@ -17,6 +17,7 @@ numbers p =
       W = p .w .value;
     }
 
+-- document 01's number, or the properties, of each case of an answer
 abbrev pub meaning : Answer → Outcome Six
 meaning (Accepted p) = accepted (numbers p)
 meaning (Refused n) = refused n

@@ -2,5 +2,6 @@ pub mod Chain
 pub mod Unrounded
 pub mod Quantities
 pub mod Distances
+pub mod Accepted
 pub mod Answers
 pub mod Cases

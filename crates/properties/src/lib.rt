@@ -62,7 +62,7 @@ fn calculate(combustion: u8, metering: u8, lines: &[u8], fractions: &[u32]) -> P
 pub fn properties_of(bytes: &[u8]) -> Answer
     ensures { λ r. ⌜ meaning r ≡ propertiesOf (now (bytes .entry)) ⌝ }
 {
-    let head = records::conditions::head_refusal(bytes);
+    let head = records::head_refusal(bytes);
     if head != 0 {
         return Answer::Refused(head);
     }

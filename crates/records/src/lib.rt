@@ -7,8 +7,10 @@ ghost use Rattle.records.specs.Format.{contents, linesIn, fractionsIn};
 ghost use Rattle.records.specs.Conditions.{headOrder, recordOrder};
 ghost use Rattle.records.specs.Answers.{Reads, Writes, Rewrites, verdictOf, padded, blank};
 
-pub mod conditions;
+mod conditions;
 mod format;
+
+pub use conditions::head_refusal;
 
 // Accepted, or refused with document 01's number.
 pub enum Verdict {

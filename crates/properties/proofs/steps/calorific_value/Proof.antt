@@ -1,7 +1,8 @@
 -- The ideal and the real value are below their bounds.
 use borrow.Author.Needs.{needs}
 use native.Mathlib.Omega.{arith}
-use Rattle.properties.proofs.StepBounds.{ideal-calorific-high, real-high}
+use Rattle.properties.specs.Quantities.{calorificBound}
+use Rattle.properties.proofs.StepBounds.{ideal-calorific-high, step-high}
 use Rattle.properties.proofs.steps.calorific_value.Statement.{statement}
 use Rattle.properties.proofs.steps.calorific_value.Tie as tie
 
@@ -16,9 +17,7 @@ real-requires c κs =
 new-requires : tie.Need-new-requires
 new-requires c κs =
     let b = c .before .before in
-    let h = ideal-calorific-high (b .args .hm) (b .args .divisor) (b .pre .0) (b .pre .1) in
-    let l = real-high (c .before .ideal-calorific-value .result) (b .args .z .value) (b .pre .2) 242000000 (omega (arith, c .before .ideal-calorific-value .ensures, h)) in
-    omega (arith, c .real .ensures, l)
+    step-high 175000000 calorificBound (c .before .ideal-calorific-value .ensures) (ideal-calorific-high (b .args .hm) (b .args .divisor) (b .pre .0) (b .pre .1)) (b .pre .2) (c .real .ensures) (omega arith)
 
 returns : tie.Need-returns
 returns c = cc

@@ -1,7 +1,8 @@
 -- The ideal and the real value are below their bounds.
 use borrow.Author.Needs.{needs}
 use native.Mathlib.Omega.{arith}
-use Rattle.properties.proofs.StepBounds.{ideal-density-high, real-high}
+use Rattle.properties.specs.Quantities.{densityBound}
+use Rattle.properties.proofs.StepBounds.{ideal-density-high, step-high}
 use Rattle.properties.proofs.steps.density.Statement.{statement}
 use Rattle.properties.proofs.steps.density.Tie as tie
 
@@ -19,9 +20,7 @@ real-requires c κs =
 new-requires : tie.Need-new-requires
 new-requires c κs =
     let b = c .before .before in
-    let h = ideal-density-high (b .args .m) (b .args .divisor) (b .pre .0) (b .pre .1) in
-    let l = real-high (c .before .nearest .result) (b .args .z .value) (b .pre .2) 494000000 (omega (arith, c .before .nearest .ensures, h)) in
-    omega (arith, c .real .ensures, l)
+    step-high 357000000 densityBound (c .before .nearest .ensures) (ideal-density-high (b .args .m) (b .args .divisor) (b .pre .0) (b .pre .1)) (b .pre .2) (c .real .ensures) (omega arith)
 
 returns : tie.Need-returns
 returns c = cc

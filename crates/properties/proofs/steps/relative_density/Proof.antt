@@ -2,7 +2,8 @@
 use borrow.Author.Needs.{needs}
 use native.Mathlib.Omega.{arith}
 use native.Mathlib.Nat.{mul-le-mul}
-use Rattle.properties.proofs.StepBounds.{ideal-relative-high, real-high}
+use Rattle.properties.specs.Quantities.{relativeBound}
+use Rattle.properties.proofs.StepBounds.{ideal-relative-high, step-high}
 use Rattle.properties.proofs.steps.relative_density.Statement.{statement}
 use Rattle.properties.proofs.steps.relative_density.Tie as tie
 
@@ -20,9 +21,7 @@ real-requires c κs =
 new-requires : tie.Need-new-requires
 new-requires c κs =
     let b = c .before .before in
-    let h = ideal-relative-high (b .args .m) (b .args .air) (b .pre .0) (b .pre .1) in
-    let l = real-high (c .before .nearest .result) (b .args .z .value) (b .pre .2) 385000000 (omega (arith, c .before .nearest .ensures, h)) in
-    omega (arith, c .real .ensures, l)
+    step-high 277000000 relativeBound (c .before .nearest .ensures) (ideal-relative-high (b .args .m) (b .args .air) (b .pre .0) (b .pre .1)) (b .pre .2) (c .real .ensures) (omega arith)
 
 returns : tie.Need-returns
 returns c = cc

@@ -6,7 +6,6 @@ use borrow.Author.Needs.{needs}
 use Rattle.components.specs.Table.{superior, inferior, summation}
 use Rattle.components.specs.Composition.{sumOf}
 use Rattle.records.specs.Format.{Contents, contents}
-use Rattle.records.specs.Accepted.{Acceptable}
 use Rattle.properties.specs.Chain.{HmSuperior, HmInferior, M, S}
 use Rattle.properties.proofs.StepBounds.{combustion-place, metering-place}
 use Rattle.properties.proofs.Gas.{amount-is, over-entries}
@@ -19,9 +18,6 @@ module _ (c : tie.After-metering-place) where
 
   abbrev gas : Contents
   gas = contents (start .args .combustion) (start .args .metering) (start .args .lines .now) (start .args .fractions .now)
-
-  good : Acceptable gas
-  good = start .pre
 
 component-table-requires : tie.Need-component-table-requires
 component-table-requires c κs = search needs
@@ -36,7 +32,7 @@ sums-of-requires : tie.Need-sums-of-requires
 sums-of-requires c κs = (
   c .before .before .before .component-table .ensures,
   (
-    good c .composition,
+    start c .pre .composition,
     (
       omega (arith, c .before .combustion-place .ensures, combustion-place (start c .args .combustion)),
       omega (arith, c .metering-place .ensures, metering-place (start c .args .metering)),
@@ -50,12 +46,12 @@ returns c =
     let b = c .before in
     let t = b .before .combustion-place .ensures in
     let e = c .sums-of .ensures in (
-      amount-is (gas b) (good b) (ap superior t) _ (e .0),
+      amount-is (gas b) (start b .pre) (ap superior t) _ (e .0),
       (
-        amount-is (gas b) (good b) (ap inferior t) _ (e .1 .0),
+        amount-is (gas b) (start b .pre) (ap inferior t) _ (e .1 .0),
         (
-          amount-is (gas b) (good b) refl _ (e .1 .1 .0),
-          e .1 .1 .1 ∙ ap (λ (k : ℕ). sumOf (summation k) (gas b .lines) (gas b .fractions)) (b .metering-place .ensures) ∙ sym (over-entries (gas b) (good b) _),
+          amount-is (gas b) (start b .pre) refl _ (e .1 .1 .0),
+          e .1 .1 .1 ∙ ap (λ (k : ℕ). sumOf (summation k) (gas b .lines) (gas b .fractions)) (b .metering-place .ensures) ∙ sym (over-entries (gas b) (start b .pre) _),
         ),
       ),
     )
