@@ -17,6 +17,18 @@ numbers p =
       W = p .w .value;
     }
 
+-- the properties of the numbers
+abbrev pub quantities : Six → Properties
+quantities p =
+    record {
+      z = record { value = p .Z };
+      hs = record { value = p .Hs };
+      hi = record { value = p .Hi };
+      rho = record { value = p .rho };
+      d = record { value = p .d };
+      w = record { value = p .W };
+    }
+
 -- document 01's number, or the properties, of each case of an answer
 abbrev pub meaning : Answer → Outcome Six
 meaning (Accepted p) = accepted (numbers p)

@@ -1,0 +1,70 @@
+-- What the orders of the calls say: their numbers, and what holds where no condition does.
+use mathlib.Core.Path.{_≡_, refl, sym, _∙_}
+use mathlib.Core.Bool.{Bool, true, false}
+use mathlib.Core.List.{List, [], _∷_, _++_}
+use Prim.Native.Nat.{ℕ, _+_, _-_, _≤_, _<_}
+use native.Mathlib.Omega.{arith}
+use borrow.Author.Tests.{ltb-true, ltb-false, lt-ltb, le-ltb}
+use lib.Dec.{ltb}
+use Rattle.records.specs.Order.{Order, firstOf}
+use Rattle.records.specs.Format.{combustionIn, meteringIn}
+use Rattle.records.specs.Conditions.{recordOrder}
+use Rattle.records.proofs.OrderLaws.{unmet, clear-first, clear-second}
+use Rattle.meter.specs.declared.Stream.{Stream}
+use Rattle.meter.specs.Conditions.{pairDiffers, volumeAbove, noAnalysis, volumeOrder, analysisOrder, meteringOrder, AnalysisNumbers, MeteringNumbers, TotalsNumbers, MeanNumbers}
+
+pub analysis-numbers : AnalysisNumbers
+analysis-numbers k bs s = refl
+
+pub metering-numbers : MeteringNumbers
+metering-numbers k v s = refl
+
+pub totals-numbers : TotalsNumbers
+totals-numbers k = refl
+
+pub mean-numbers : MeanNumbers
+mean-numbers k s = refl
+
+-- past 13, which every call tries first
+pub not-above : {k : ℕ} (rest : Order) → k ≤ 15 → firstOf rest ≡ firstOf ((13, ltb 15 k) ∷ rest)
+not-above {k} rest h = rw (le-ltb 15 k h)
+
+-- 17 without the sum
+pub passes-room : (limit total v : ℕ) → total ≤ limit → ltb (limit - total) v ≡ ltb limit (total + v)
+passes-room limit total v h = go (ltb (limit - total) v) refl
+  where
+    go : (b : Bool) → ltb (limit - total) v ≡ b → ltb (limit - total) v ≡ ltb limit (total + v)
+    go true e = e ∙ sym (lt-ltb limit (total + v) (omega (arith, ltb-true (limit - total) v e)))
+    go false e = e ∙ sym (le-ltb limit (total + v) (omega (arith, ltb-false (limit - total) v e)))
+
+-- the number of a metering call on a stream up to 15
+pub metering-number-is : (k v : ℕ) (s : Stream) (none : Bool) → k ≤ 15 → s .volume ≤ 999999999999 → none ≡ noAnalysis (s .analysis) →
+    firstOf (volumeOrder (volumeAbove v) none (ltb (999999999999 - s .volume) v)) ≡ firstOf (meteringOrder k v s)
+metering-number-is k v s none low total is = rw (le-ltb 15 k low, is, passes-room 999999999999 (s .volume) v total)
+
+-- an accepted analysis
+pub record ClearAnalysis (k : ℕ) (bs : List ℕ) (s : Stream) : Type 0 where
+  pub stream : k < 16
+  pub clear : firstOf (recordOrder bs) ≡ 0
+  pub pair : pairDiffers (s .analysis) (combustionIn bs) (meteringIn bs) ≡ false
+
+pub clear-analysis : (k : ℕ) (bs : List ℕ) (s : Stream) → firstOf (analysisOrder k bs s) ≡ 0 → ClearAnalysis k bs s
+clear-analysis k bs s h =
+    let rest = clear-second ((13, ltb 15 k) ∷ []) (recordOrder bs ++ ((14, pairDiffers (s .analysis) (combustionIn bs) (meteringIn bs)) ∷ [])) tt h in
+    record {
+      stream = omega (arith, ltb-false 15 k (unmet (analysisOrder k bs s) tt h 13));
+      clear = clear-first (recordOrder bs) ((14, pairDiffers (s .analysis) (combustionIn bs) (meteringIn bs)) ∷ []) tt rest;
+      pair = unmet (analysisOrder k bs s) tt h 14;
+    }
+
+-- an accepted volume
+pub record ClearMetering (k v : ℕ) (s : Stream) : Type 0 where
+  pub stream : k < 16
+  pub volume : v ≤ 10000000
+  pub analysed : noAnalysis (s .analysis) ≡ false
+  pub total : s .volume + v ≤ 999999999999
+
+pub clear-metering : (k v : ℕ) (s : Stream) → firstOf (meteringOrder k v s) ≡ 0 → ClearMetering k v s
+clear-metering k v s h =
+    let free = unmet (meteringOrder k v s) tt h in
+    record { stream = omega (arith, ltb-false 15 k (free 13)); volume = ltb-false 10000000 v (free 15); analysed = free 16; total = ltb-false 999999999999 (s .volume + v) (free 17) }

@@ -1,0 +1,34 @@
+-- A register, u units of whose rest make one whole: what is booked is added to its amount, and its rest stays below one whole.
+use mathlib.Core.Path.{_≡_, sym, ap, _∙_}
+use Prim.Native.Nat.{ℕ, _+_, _*_, _/_, _%_, _≤_, _<_}
+use native.Mathlib.Nat.{add-comm, add-assoc, add-mul-div-right, add-mul-mod-self-right, div-add-mod', mod-lt}
+use native.Mathlib.Omega.{arith}
+use lib.Arith.{digits-div, digits-mod}
+use Rattle.meter.specs.declared.Register.{Register}
+use Rattle.meter.specs.State.{amountIn, SoundRegister}
+use Rattle.meter.specs.Calls.{booked}
+
+module _ (u : ℕ) (p : 0 < u) where
+  -- the carry from the rest to the whole part
+  pub carried : (e : Register) (n : ℕ) → _≡_ {A = Register} (record { whole = e .whole + (e .rest + n) / u; rest = (e .rest + n) % u }) (booked u e n)
+  carried e n =
+      let sum : e .rest + n + e .whole * u ≡ amountIn u e + n = omega arith in
+      let whole : e .whole + (e .rest + n) / u ≡ (amountIn u e + n) / u =
+      add-comm (e .whole) ((e .rest + n) / u) ∙ sym (add-mul-div-right (e .rest + n) (e .whole) p) ∙ ap (λ (x : ℕ). x / u) sum in
+      let rest : (e .rest + n) % u ≡ (amountIn u e + n) % u =
+      sym (add-mul-mod-self-right (e .rest + n) (e .whole) u) ∙ ap (λ (x : ℕ). x % u) sum in
+      λ i. record { whole = whole i; rest = rest i }
+
+  pub amount-booked : (e : Register) (n : ℕ) → amountIn u (booked u e n) ≡ amountIn u e + n
+  amount-booked e n = div-add-mod' (amountIn u e + n) u
+
+  pub sound-booked : (ceiling v w n : ℕ) (e : Register) → SoundRegister u ceiling v e → n ≤ w * ceiling → SoundRegister u ceiling (v + w) (booked u e n)
+  sound-booked ceiling v w n e s h =
+      record { rest = mod-lt (amountIn u e + n) p; amount = omega (arith, amount-booked e n, s .amount) }
+
+-- the parts of a register, from its amount
+pub whole-of : (u : ℕ) (e : Register) → e .rest < u → e .whole ≡ amountIn u e / u
+whole-of u e h = sym (digits-div (e .whole) h)
+
+pub rest-of : (u : ℕ) (e : Register) → e .rest < u → e .rest ≡ amountIn u e % u
+rest-of u e h = sym (digits-mod (e .whole) h)

@@ -1,0 +1,19 @@
+-- The carry from the rest to the whole part.
+use native.Mathlib.Omega.{arith}
+use borrow.Author.Needs.{needs}
+use Rattle.meter.specs.State.{perMJ}
+use Rattle.meter.proofs.Registers.{carried}
+use Rattle.meter.proofs.book.Statement.{statement}
+use Rattle.meter.proofs.book.Tie as tie
+
+add-rest : tie.Need-add-rest
+add-rest c = search needs
+
+add-t5 : tie.Need-add-t5
+add-t5 c = search needs
+
+returns : tie.Need-returns
+returns c = let a = c .before .before .args in carried perMJ (omega arith) (a .energy) (a .n)
+
+pub book-spec : {M : Type 1} → statement M
+book-spec = tie.close (tie.spec add-rest add-t5 returns)

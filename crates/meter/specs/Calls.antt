@@ -1,0 +1,54 @@
+-- What the calls on a meter give: the number of the first condition that holds, or the answer or the meter after the call.
+use mathlib.Core.List.{List}
+use Prim.Native.Nat.{ℕ, _+_, _*_, _/_, _%_}
+use Rattle.rounding.specs.Near.{near}
+use Rattle.records.specs.Order.{Outcome, firstOf, decided}
+use Rattle.records.specs.Format.{combustionIn, meteringIn, contentsIn}
+use Rattle.properties.specs.Chain.{sixOf}
+use Rattle.properties.specs.Answers.{quantities}
+use Rattle.meter.specs.declared.Gas.{Gas}
+use Rattle.meter.specs.declared.InForce.the-variants.{Known}
+use Rattle.meter.specs.declared.Register.{Register}
+use Rattle.meter.specs.declared.Stream.{Stream}
+use Rattle.meter.specs.declared.Meter.{Meter}
+use Rattle.meter.specs.declared.StreamTotals.{StreamTotals}
+use Rattle.meter.specs.State.{streamAt, withStream, hsOf, amountIn, perMJ}
+use Rattle.meter.specs.Conditions.{analysisOrder, meteringOrder, totalsOrder, meanOrder}
+
+-- an accepted record as a gas in force
+abbrev pub gasOf : List ℕ → Gas
+gasOf bs = record { combustion = combustionIn bs; metering = meteringIn bs; properties = quantities (sixOf (contentsIn bs)) }
+
+-- a stream with another analysis in force
+abbrev pub analysed : Stream → List ℕ → Stream
+analysed s bs = record { analysis = Known (gasOf bs); volume = s .volume; energy = s .energy }
+
+-- a register with n more, u of which make one whole
+abbrev pub booked : ℕ → Register → ℕ → Register
+booked u e n = record { whole = (amountIn u e + n) / u; rest = (amountIn u e + n) % u }
+
+-- a stream with v dm³ more, and v × Hs mJ more
+abbrev pub metered : Stream → ℕ → Stream
+metered s v = record { analysis = s .analysis; volume = s .volume + v; energy = booked perMJ (s .energy) (v * hsOf (s .analysis)) }
+
+-- the analysis call: the record's properties come into force on the stream k
+abbrev pub analysisOf : Meter → ℕ → List ℕ → Outcome Meter
+analysisOf m k bs = decided (firstOf (analysisOrder k bs (streamAt m k))) (withStream m k (analysed (streamAt m k) bs))
+
+-- the metering call: the stream k takes v dm³
+abbrev pub meteringOf : Meter → ℕ → ℕ → Outcome Meter
+meteringOf m k v = decided (firstOf (meteringOrder k v (streamAt m k))) (withStream m k (metered (streamAt m k) v))
+
+-- the reading of totals
+abbrev pub totalsIn : Stream → StreamTotals
+totalsIn s = record { volume = s .volume; energy = s .energy }
+
+abbrev pub totalsOf : Meter → ℕ → Outcome StreamTotals
+totalsOf m k = decided (firstOf (totalsOrder k)) (totalsIn (streamAt m k))
+
+-- the reading of the mean, in J/m³: near(energy in mJ / volume in dm³)
+abbrev pub meanIn : Stream → ℕ
+meanIn s = near (amountIn perMJ (s .energy)) (s .volume)
+
+abbrev pub meanOf : Meter → ℕ → Outcome ℕ
+meanOf m k = decided (firstOf (meanOrder k (streamAt m k))) (meanIn (streamAt m k))

@@ -1,0 +1,5 @@
+pub mod State
+pub mod Conditions
+pub mod Calls
+pub mod Answers
+pub mod Kept

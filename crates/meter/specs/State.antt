@@ -1,0 +1,56 @@
+-- The meter of document 01 as made, and what holds of every meter.
+use mathlib.Core.Path.{_≡_}
+use mathlib.Core.List.{List}
+use Prim.Native.Nat.{ℕ, _+_, _*_, _≤_, _<_}
+use lib.ListN.{length, getD, set, replicate}
+use Rattle.properties.specs.Quantities.{calorificBound}
+use Rattle.meter.specs.declared.InForce.{InForce}
+use Rattle.meter.specs.declared.InForce.the-variants.{Nothing, Known}
+use Rattle.meter.specs.declared.Register.{Register}
+use Rattle.meter.specs.declared.Stream.{Stream}
+use Rattle.meter.specs.declared.Meter.{Meter}
+
+-- no analysis, volume 0, energy 0
+abbrev pub freshStream : Stream
+freshStream = record { analysis = Nothing; volume = 0; energy = record { whole = 0; rest = 0 } }
+
+-- 16 streams, 0 to 15
+abbrev pub freshMeter : Meter
+freshMeter = record { streams = replicate 16 freshStream }
+
+-- the stream k of a meter
+abbrev pub streamAt : Meter → ℕ → Stream
+streamAt m k = getD (m .streams) k freshStream
+
+-- the meter with another stream k, and no other stream touched
+abbrev pub withStream : Meter → ℕ → Stream → Meter
+withStream m k s = record { streams = set (m .streams) k s }
+
+-- Hs of the analysis in force, 0 where there is none
+abbrev pub hsOf : InForce → ℕ
+hsOf Nothing = 0
+hsOf (Known gas) = gas .properties .hs .value
+
+-- what a register holds, in units of its rest, u of which make one of its whole part
+abbrev pub amountIn : ℕ → Register → ℕ
+amountIn u e = e .whole * u + e .rest
+
+-- mJ in 1 MJ
+abbrev pub perMJ : ℕ
+perMJ = 1000000000
+
+-- what holds of a register at a volume total v: the rest is below one whole, and the amount at most v × a ceiling
+pub record SoundRegister (u ceiling v : ℕ) (e : Register) : Type 0 where
+  pub rest : e .rest < u
+  pub amount : amountIn u e ≤ v * ceiling
+
+-- what holds of every stream
+pub record SoundStream (s : Stream) : Type 0 where
+  pub Hs : hsOf (s .analysis) ≤ calorificBound
+  pub volume : s .volume ≤ 999999999999
+  pub energy : SoundRegister perMJ calorificBound (s .volume) (s .energy)
+
+-- what holds of every meter, as made or as its calls left it
+pub record Sound (m : Meter) : Type 0 where
+  pub count : length (m .streams) ≡ 16
+  pub each : (k : ℕ) → k < 16 → SoundStream (streamAt m k)

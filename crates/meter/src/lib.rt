@@ -1,0 +1,252 @@
+// The meter of document 01: sixteen streams, each with the analysis in force, a volume total and an energy register. Every call, with
+// any arguments, gets its answer or the one number of its refusal. A call takes the meter by value and gives it back; what it was
+// refused, it gives back as it was.
+use properties::Answer;
+use properties::Properties;
+use properties::quantities::CalorificValue;
+use records::Verdict;
+ghost use mathlib.Core.Path.{_≡_};
+ghost use Prim.Native.Nat.{_^_, _<_};
+ghost use Rattle.records.specs.Order.{firstOf};
+ghost use Rattle.records.specs.Answers.{Gives};
+ghost use Rattle.meter.specs.State.{freshMeter, hsOf, perMJ, Sound};
+ghost use Rattle.meter.specs.Conditions.{pairDiffers, noAnalysis, volumeOrder};
+ghost use Rattle.meter.specs.Calls.{booked, analysisOf, meteringOf, totalsOf, meanOf};
+ghost use Rattle.meter.specs.Answers.{totalsMeaning, meanMeaning};
+
+// The properties of an accepted record, and its pair of temperatures in °C.
+pub struct Gas {
+    pub combustion: u8,
+    pub metering: u8,
+    pub properties: Properties,
+}
+
+// The analysis in force.
+pub enum InForce {
+    Nothing,
+    Known(Gas),
+}
+
+// An energy: whole MJ, and a rest below 10^9 mJ.
+pub struct Register {
+    pub whole: u64,
+    pub rest: u64,
+}
+
+// The volume total is in dm³.
+pub struct Stream {
+    analysis: InForce,
+    volume: u64,
+    energy: Register,
+}
+
+pub struct Meter {
+    streams: [Stream; 16],
+}
+
+// The meter after a call that may change it.
+pub struct Changed {
+    pub meter: Meter,
+    pub verdict: Verdict,
+}
+
+pub struct StreamTotals {
+    pub volume: u64,
+    pub energy: Register,
+}
+
+pub enum TotalsAnswer {
+    Accepted(StreamTotals),
+    Refused(u8),
+}
+
+pub enum MeanAnswer {
+    Accepted(CalorificValue),
+    Refused(u8),
+}
+
+// A meter as made.
+pub fn fresh() -> Meter
+    ensures { λ r. ⌜ r ≡ freshMeter ⌝ }
+{
+    let stream = Stream {
+        analysis: InForce::Nothing,
+        volume: 0,
+        energy: Register { whole: 0, rest: 0 },
+    };
+    Meter {
+        streams: [stream; 16],
+    }
+}
+
+// 14, for the pair of an accepted record.
+fn pair_differs(analysis: InForce, combustion: u8, metering: u8) -> bool
+    ensures { λ r. ⌜ r ≡ pairDiffers analysis combustion metering ⌝ }
+{
+    match analysis {
+        InForce::Nothing => false,
+        InForce::Known(gas) => (gas.combustion != combustion) | (gas.metering != metering),
+    }
+}
+
+// The record's properties come into force.
+pub fn analysis(meter: Meter, stream: usize, bytes: &[u8]) -> Changed
+    ensures { λ r. ⌜ Gives (analysisOf meter stream (now (bytes .entry))) meter (r .verdict) (r .meter) ⌝ }
+{
+    if 15 < stream {
+        return Changed {
+            meter,
+            verdict: Verdict::Refused(13),
+        };
+    }
+    let before = meter.streams[stream];
+    match properties::properties_of(bytes) {
+        Answer::Refused(number) => Changed {
+            meter,
+            verdict: Verdict::Refused(number),
+        },
+        Answer::Accepted(properties) => {
+            let combustion = bytes[5];
+            let metering = bytes[6];
+            let earlier = before.analysis;
+            if pair_differs(earlier, combustion, metering) {
+                return Changed {
+                    meter,
+                    verdict: Verdict::Refused(14),
+                };
+            }
+            let volume = before.volume;
+            let energy = before.energy;
+            let mut after = meter;
+            after.streams[stream] = Stream {
+                analysis: InForce::Known(Gas {
+                    combustion,
+                    metering,
+                    properties,
+                }),
+                volume,
+                energy,
+            };
+            Changed {
+                meter: after,
+                verdict: Verdict::Accepted,
+            }
+        }
+    }
+}
+
+// The superior calorific value in force, 0 where there is none.
+fn hs_in_force(analysis: InForce) -> u64
+    ensures { λ r. ⌜ r ≡ hsOf analysis ⌝ }
+{
+    match analysis {
+        InForce::Nothing => 0,
+        InForce::Known(gas) => gas.properties.hs.value(),
+    }
+}
+
+// 16.
+fn no_analysis(analysis: InForce) -> bool
+    ensures { λ r. ⌜ r ≡ noAnalysis analysis ⌝ }
+{
+    match analysis {
+        InForce::Nothing => true,
+        InForce::Known(_) => false,
+    }
+}
+
+// The first of 15, 16 and 17 that holds, 0 where none does.
+fn metering_number(fifteen: bool, sixteen: bool, seventeen: bool) -> u8
+    ensures { λ r. ⌜ r ≡ firstOf (volumeOrder fifteen sixteen seventeen) ⌝ }
+{
+    if fifteen {
+        return 15;
+    }
+    if sixteen {
+        return 16;
+    }
+    if seventeen {
+        return 17;
+    }
+    0
+}
+
+// The register with n mJ more.
+fn book(energy: Register, n: u64) -> Register
+    requires { ⌜ (energy .rest < perMJ) × (energy .whole < 2 ^ 63) × (n < 2 ^ 63) ⌝ }
+    ensures { λ r. ⌜ r ≡ booked perMJ energy n ⌝ }
+{
+    let rest = energy.rest + n;
+    Register {
+        whole: energy.whole + rest / 1000000000,
+        rest: rest % 1000000000,
+    }
+}
+
+// The volume, and volume × Hs in mJ, are added.
+pub fn metering(meter: Meter, stream: usize, volume: u64) -> Changed
+    requires { ⌜ Sound meter ⌝ }
+    ensures { λ r. ⌜ Gives (meteringOf meter stream volume) meter (r .verdict) (r .meter) ⌝ }
+{
+    if 15 < stream {
+        return Changed {
+            meter,
+            verdict: Verdict::Refused(13),
+        };
+    }
+    let before = meter.streams[stream];
+    let analysis = before.analysis;
+    let room = 999999999999 - before.volume;
+    let refusal = metering_number(10000000 < volume, no_analysis(analysis), room < volume);
+    if refusal != 0 {
+        return Changed {
+            meter,
+            verdict: Verdict::Refused(refusal),
+        };
+    }
+    let register = before.energy;
+    let energy = book(register, volume * hs_in_force(analysis));
+    let mut after = meter;
+    after.streams[stream] = Stream {
+        analysis,
+        volume: before.volume + volume,
+        energy,
+    };
+    Changed {
+        meter: after,
+        verdict: Verdict::Accepted,
+    }
+}
+
+// The volume and the energy of a stream.
+pub fn totals(meter: Meter, stream: usize) -> TotalsAnswer
+    ensures { λ r. ⌜ totalsMeaning r ≡ totalsOf meter stream ⌝ }
+{
+    if 15 < stream {
+        return TotalsAnswer::Refused(13);
+    }
+    let s = meter.streams[stream];
+    let volume = s.volume;
+    let energy = s.energy;
+    TotalsAnswer::Accepted(StreamTotals { volume, energy })
+}
+
+// The mean calorific value of what a stream has taken.
+pub fn mean(meter: Meter, stream: usize) -> MeanAnswer
+    requires { ⌜ Sound meter ⌝ }
+    ensures { λ r. ⌜ meanMeaning r ≡ meanOf meter stream ⌝ }
+{
+    if 15 < stream {
+        return MeanAnswer::Refused(13);
+    }
+    let s = meter.streams[stream];
+    if s.volume == 0 {
+        return MeanAnswer::Refused(18);
+    }
+    let energy = s.energy;
+    MeanAnswer::Accepted(CalorificValue::new(rounding::nearest_wide(
+        energy.whole,
+        energy.rest,
+        s.volume,
+    )))
+}
