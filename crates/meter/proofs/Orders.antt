@@ -11,7 +11,7 @@ use Rattle.records.specs.Format.{combustionIn, meteringIn}
 use Rattle.records.specs.Conditions.{recordOrder}
 use Rattle.records.proofs.OrderLaws.{unmet, clear-first, clear-second}
 use Rattle.meter.specs.declared.Stream.{Stream}
-use Rattle.meter.specs.Conditions.{pairDiffers, volumeAbove, noAnalysis, volumeOrder, analysisOrder, meteringOrder, AnalysisNumbers, MeteringNumbers, TotalsNumbers, MeanNumbers}
+use Rattle.meter.specs.Conditions.{pairDiffers, volumeAbove, noAnalysis, pairOrder, volumeOrder, analysisOrder, meteringOrder, AnalysisNumbers, MeteringNumbers, TotalsNumbers, MeanNumbers}
 
 pub analysis-numbers : AnalysisNumbers
 analysis-numbers k bs s = refl
@@ -25,7 +25,13 @@ totals-numbers k = refl
 pub mean-numbers : MeanNumbers
 mean-numbers k s = refl
 
--- past 13, which every call tries first
+-- 13, which every call tries first
+pub analysis-above : (k : ℕ) (bs : List ℕ) (s : Stream) → 15 < k → 13 ≡ firstOf (analysisOrder k bs s)
+analysis-above k bs s h = rw (lt-ltb 15 k h)
+
+pub metering-above : (k v : ℕ) (s : Stream) → 15 < k → 13 ≡ firstOf (meteringOrder k v s)
+metering-above k v s h = rw (lt-ltb 15 k h)
+
 pub not-above : {k : ℕ} (rest : Order) → k ≤ 15 → firstOf rest ≡ firstOf ((13, ltb 15 k) ∷ rest)
 not-above {k} rest h = rw (le-ltb 15 k h)
 
@@ -50,10 +56,10 @@ pub record ClearAnalysis (k : ℕ) (bs : List ℕ) (s : Stream) : Type 0 where
 
 pub clear-analysis : (k : ℕ) (bs : List ℕ) (s : Stream) → firstOf (analysisOrder k bs s) ≡ 0 → ClearAnalysis k bs s
 clear-analysis k bs s h =
-    let rest = clear-second ((13, ltb 15 k) ∷ []) (recordOrder bs ++ ((14, pairDiffers (s .analysis) (combustionIn bs) (meteringIn bs)) ∷ [])) tt h in
+    let rest = clear-second ((13, ltb 15 k) ∷ []) (recordOrder bs ++ (pairOrder (pairDiffers (s .analysis) (combustionIn bs) (meteringIn bs)))) tt h in
     record {
       stream = omega (arith, ltb-false 15 k (unmet (analysisOrder k bs s) tt h 13));
-      clear = clear-first (recordOrder bs) ((14, pairDiffers (s .analysis) (combustionIn bs) (meteringIn bs)) ∷ []) tt rest;
+      clear = clear-first (recordOrder bs) (pairOrder (pairDiffers (s .analysis) (combustionIn bs) (meteringIn bs))) tt rest;
       pair = unmet (analysisOrder k bs s) tt h 14;
     }
 

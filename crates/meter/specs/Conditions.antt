@@ -37,13 +37,16 @@ totalPasses total v = ltb 999999999999 (total + v)
 abbrev pub totalZero : ℕ → Bool
 totalZero total = eqb total 0
 
--- the order of each call on the stream k, which is s
-abbrev pub analysisOrder : ℕ → List ℕ → Stream → Order
-analysisOrder k bs s = (13, streamAbove k) ∷ recordOrder bs ++ ((14, pairDiffers (s .analysis) (combustionIn bs) (meteringIn bs)) ∷ [])
+-- 14, and 15, 16 and 17, from whether each of them holds
+abbrev pub pairOrder : Bool → Order
+pairOrder fourteen = (14, fourteen) ∷ []
 
--- 15, 16 and 17, from whether each of them holds
 abbrev pub volumeOrder : Bool → Bool → Bool → Order
 volumeOrder fifteen sixteen seventeen = (15, fifteen) ∷ (16, sixteen) ∷ (17, seventeen) ∷ []
+
+-- the order of each call on the stream k, which is s
+abbrev pub analysisOrder : ℕ → List ℕ → Stream → Order
+analysisOrder k bs s = (13, streamAbove k) ∷ recordOrder bs ++ pairOrder (pairDiffers (s .analysis) (combustionIn bs) (meteringIn bs))
 
 abbrev pub meteringOrder : ℕ → ℕ → Stream → Order
 meteringOrder k v s = (13, streamAbove k) ∷ volumeOrder (volumeAbove v) (noAnalysis (s .analysis)) (totalPasses (s .volume) v)

@@ -6,12 +6,12 @@ use properties::Properties;
 use properties::quantities::CalorificValue;
 use records::Verdict;
 ghost use mathlib.Core.Path.{_≡_};
-ghost use Prim.Native.Nat.{_^_, _<_};
+ghost use Prim.Native.Nat.{_+_, _^_, _≤_, _<_};
 ghost use Rattle.records.specs.Order.{firstOf};
 ghost use Rattle.records.specs.Answers.{Gives};
-ghost use Rattle.meter.specs.State.{freshMeter, hsOf, perMJ, Sound};
-ghost use Rattle.meter.specs.Conditions.{pairDiffers, noAnalysis, volumeOrder};
-ghost use Rattle.meter.specs.Calls.{booked, analysisOf, meteringOf, totalsOf, meanOf};
+ghost use Rattle.meter.specs.State.{freshMeter, hsOf, perMJ, SoundStream, Sound};
+ghost use Rattle.meter.specs.Conditions.{pairDiffers, noAnalysis, pairOrder, volumeOrder};
+ghost use Rattle.meter.specs.Calls.{booked, metered, analysisOf, meteringOf, totalsOf, meanOf};
 ghost use Rattle.meter.specs.Answers.{totalsMeaning, meanMeaning};
 
 // The properties of an accepted record, and its pair of temperatures in °C.
@@ -79,59 +79,56 @@ pub fn fresh() -> Meter
     }
 }
 
-// 14, for the pair of an accepted record.
-fn pair_differs(analysis: InForce, combustion: u8, metering: u8) -> bool
-    ensures { λ r. ⌜ r ≡ pairDiffers analysis combustion metering ⌝ }
+// 14, 0 where it does not hold.
+fn pair_number(earlier: InForce, combustion: u8, metering: u8) -> u8
+    ensures { λ r. ⌜ r ≡ firstOf (pairOrder (pairDiffers earlier combustion metering)) ⌝ }
 {
-    match analysis {
-        InForce::Nothing => false,
-        InForce::Known(gas) => (gas.combustion != combustion) | (gas.metering != metering),
+    match earlier {
+        InForce::Nothing => 0,
+        InForce::Known(gas) => {
+            if (gas.combustion != combustion) | (gas.metering != metering) {
+                return 14;
+            }
+            0
+        }
     }
 }
 
 // The record's properties come into force.
-pub fn analysis(meter: Meter, stream: usize, bytes: &[u8]) -> Changed
+pub fn analysis(mut meter: Meter, stream: usize, bytes: &[u8]) -> Changed
     ensures { λ r. ⌜ Gives (analysisOf meter stream (now (bytes .entry))) meter (r .verdict) (r .meter) ⌝ }
 {
-    if 15 < stream {
-        return Changed {
-            meter,
-            verdict: Verdict::Refused(13),
-        };
-    }
-    let before = meter.streams[stream];
-    match properties::properties_of(bytes) {
-        Answer::Refused(number) => Changed {
-            meter,
-            verdict: Verdict::Refused(number),
-        },
-        Answer::Accepted(properties) => {
-            let combustion = bytes[5];
-            let metering = bytes[6];
-            let earlier = before.analysis;
-            if pair_differs(earlier, combustion, metering) {
-                return Changed {
-                    meter,
-                    verdict: Verdict::Refused(14),
-                };
+    let mut number: u8 = 13;
+    if stream <= 15 {
+        match properties::properties_of(bytes) {
+            Answer::Refused(refusal) => {
+                number = refusal;
             }
-            let volume = before.volume;
-            let energy = before.energy;
-            let mut after = meter;
-            after.streams[stream] = Stream {
-                analysis: InForce::Known(Gas {
-                    combustion,
-                    metering,
-                    properties,
-                }),
-                volume,
-                energy,
-            };
-            Changed {
-                meter: after,
-                verdict: Verdict::Accepted,
+            Answer::Accepted(properties) => {
+                let before = meter.streams[stream];
+                let earlier = before.analysis;
+                let combustion = bytes[5];
+                let metering = bytes[6];
+                number = pair_number(earlier, combustion, metering);
+                if number == 0 {
+                    let volume = before.volume;
+                    let energy = before.energy;
+                    meter.streams[stream] = Stream {
+                        analysis: InForce::Known(Gas {
+                            combustion,
+                            metering,
+                            properties,
+                        }),
+                        volume,
+                        energy,
+                    };
+                }
             }
         }
+    }
+    Changed {
+        meter,
+        verdict: records::verdict_of(number),
     }
 }
 
@@ -156,7 +153,7 @@ fn no_analysis(analysis: InForce) -> bool
 }
 
 // The first of 15, 16 and 17 that holds, 0 where none does.
-fn metering_number(fifteen: bool, sixteen: bool, seventeen: bool) -> u8
+fn volume_number(fifteen: bool, sixteen: bool, seventeen: bool) -> u8
     ensures { λ r. ⌜ r ≡ firstOf (volumeOrder fifteen sixteen seventeen) ⌝ }
 {
     if fifteen {
@@ -172,7 +169,7 @@ fn metering_number(fifteen: bool, sixteen: bool, seventeen: bool) -> u8
 }
 
 // The register with n mJ more.
-fn book(energy: Register, n: u64) -> Register
+fn booked(energy: Register, n: u64) -> Register
     requires { ⌜ (energy .rest < perMJ) × (energy .whole < 2 ^ 63) × (n < 2 ^ 63) ⌝ }
     ensures { λ r. ⌜ r ≡ booked perMJ energy n ⌝ }
 {
@@ -183,38 +180,40 @@ fn book(energy: Register, n: u64) -> Register
     }
 }
 
-// The volume, and volume × Hs in mJ, are added.
-pub fn metering(meter: Meter, stream: usize, volume: u64) -> Changed
-    requires { ⌜ Sound meter ⌝ }
-    ensures { λ r. ⌜ Gives (meteringOf meter stream volume) meter (r .verdict) (r .meter) ⌝ }
+// The stream with the volume, and volume × Hs in mJ, added.
+fn metered(before: Stream, volume: u64) -> Stream
+    requires { ⌜ SoundStream before ⌝ }
+    requires { ⌜ (volume ≤ 10000000) × (before .volume + volume ≤ 999999999999) ⌝ }
+    ensures { λ r. ⌜ r ≡ metered before volume ⌝ }
 {
-    if 15 < stream {
-        return Changed {
-            meter,
-            verdict: Verdict::Refused(13),
-        };
-    }
-    let before = meter.streams[stream];
     let analysis = before.analysis;
-    let room = 999999999999 - before.volume;
-    let refusal = metering_number(10000000 < volume, no_analysis(analysis), room < volume);
-    if refusal != 0 {
-        return Changed {
-            meter,
-            verdict: Verdict::Refused(refusal),
-        };
-    }
     let register = before.energy;
-    let energy = book(register, volume * hs_in_force(analysis));
-    let mut after = meter;
-    after.streams[stream] = Stream {
+    let energy = booked(register, volume * hs_in_force(analysis));
+    Stream {
         analysis,
         volume: before.volume + volume,
         energy,
-    };
+    }
+}
+
+// The stream takes the volume, in dm³.
+pub fn metering(mut meter: Meter, stream: usize, volume: u64) -> Changed
+    requires { ⌜ Sound meter ⌝ }
+    ensures { λ r. ⌜ Gives (meteringOf meter stream volume) meter (r .verdict) (r .meter) ⌝ }
+{
+    let mut number: u8 = 13;
+    if stream <= 15 {
+        let before = meter.streams[stream];
+        let analysis = before.analysis;
+        let room = 999999999999 - before.volume;
+        number = volume_number(10000000 < volume, no_analysis(analysis), room < volume);
+        if number == 0 {
+            meter.streams[stream] = metered(before, volume);
+        }
+    }
     Changed {
-        meter: after,
-        verdict: Verdict::Accepted,
+        meter,
+        verdict: records::verdict_of(number),
     }
 }
 

@@ -34,7 +34,7 @@ pub struct Reading {
 }
 
 // The verdict of a number, 0 where no condition holds.
-fn verdict_of(number: u8) -> Verdict
+pub fn verdict_of(number: u8) -> Verdict
     ensures { λ r. ⌜ r ≡ verdictOf number ⌝ }
 {
     if number == 0 {

@@ -1,16 +1,22 @@
 -- 13, the record's number, 14, or the stream with the record's properties.
 use mathlib.Core.Path.{_≡_, sym, ap, _∙_}
 use mathlib.Core.List.{List}
+use mathlib.Core.Logic.{⊎-elim}
 use Prim.Native.Nat.{ℕ}
 use native.Mathlib.Omega.{arith}
 use borrow.Author.Needs.{needs}
 use Rattle.records.specs.Order.{refused, accepted}
-use Rattle.records.proofs.Heads.{Head, head}
+use Rattle.records.proofs.Heads.{Head}
+use Rattle.properties.specs.declared.Answer.{Answer}
+use Rattle.properties.specs.declared.Answer.the-variants.{Accepted, Refused}
 use Rattle.properties.specs.declared.Properties.{Properties}
 use Rattle.properties.specs.Chain.{propertiesOf}
 use Rattle.properties.specs.Answers.{numbers, meaning}
+use Rattle.properties.proofs.Outcomes.{number-of-refused}
 use Rattle.meter.specs.declared.Meter.{Meter}
-use Rattle.meter.proofs.Changes.{analysis-above, record-refused, record-head, pair-refused, analysis-accepted}
+use Rattle.meter.specs.State.{streamAt}
+use Rattle.meter.proofs.Orders.{analysis-above}
+use Rattle.meter.proofs.Changes.{record-head, record-refused, record-accepted, analysis-refused, analysis-accepted}
 use Rattle.meter.proofs.analysis.Statement.{statement}
 use Rattle.meter.proofs.analysis.Tie as tie
 
@@ -25,30 +31,27 @@ module _ (c : tie.Start) where
   abbrev bs : List ℕ
   bs = c .args .bytes .now
 
--- the place at which the record's answer is known
-module _ (c : tie.After-properties-of) where
-  abbrev branch : tie.Else1
-  branch = c .before .before
+  is-refused : {a : Answer} {n : ℕ} → meaning a ≡ propertiesOf bs → a ≡ Refused n → refused n ≡ propertiesOf bs
+  is-refused e a = sym (ap meaning a) ∙ e
 
-  abbrev start : tie.Start
-  start = branch .before .before
+  is-accepted : {a : Answer} {p : Properties} → meaning a ≡ propertiesOf bs → a ≡ Accepted p → accepted (numbers p) ≡ propertiesOf bs
+  is-accepted e a = sym (ap meaning a) ∙ e
 
--- an accepted record
-module _ (c : tie.After-properties) where
-  abbrev answered : tie.After-properties-of
-  answered = c .before .before
+-- an accepted record is long enough
+long : (c : tie.After-properties) → Head (bs (c .before .before .before .before .before))
+long c =
+    let a = c .before .before in
+    let s = a .before .before .before in
+    record-head (bs s) (c .properties .given .0 .0) (is-accepted s (a .properties-of .ensures) (c .properties .given .1))
 
-  abbrev found : Properties
-  found = c .properties .given .0 .0
+properties-of-requires : tie.Need-properties-of-requires
+properties-of-requires c κs = search needs
 
-  is : accepted (numbers found) ≡ propertiesOf (bs (start answered))
-  is = sym (ap meaning (c .properties .given .1)) ∙ answered .properties-of .ensures
+enum-known-refusal : tie.Need-enum-known-refusal
+enum-known-refusal c = search needs
 
-  long : Head (bs (start answered))
-  long = record-head (bs (start answered)) found is
-
-returns : tie.Need-returns
-returns c = let s = c .before .before in analysis-above (m s) (k s) (bs s) (c .if1 .taken)
+enum-known-properties : tie.Need-enum-known-properties
+enum-known-properties c = search needs
 
 mul-before : tie.Need-mul-before
 mul-before c = search needs
@@ -56,63 +59,58 @@ mul-before c = search needs
 element-copy-out-before : tie.Need-element-copy-out-before
 element-copy-out-before c = search needs
 
-properties-of-requires : tie.Need-properties-of-requires
-properties-of-requires c κs = search needs
-
-enum-known-number : tie.Need-enum-known-number
-enum-known-number c = search needs
-
-enum-known-properties : tie.Need-enum-known-properties
-enum-known-properties c = search needs
-
 shared-slice-read-combustion : tie.Need-shared-slice-read-combustion
-shared-slice-read-combustion c = omega (arith, long (c .before .before) .long)
+shared-slice-read-combustion c = omega (arith, long (c .before .before .before) .long)
 
 shared-slice-read-metering : tie.Need-shared-slice-read-metering
-shared-slice-read-metering c = omega (arith, long (c .before .before .before) .long)
+shared-slice-read-metering c = omega (arith, long (c .before .before .before .before) .long)
 
-pair-differs-requires : tie.Need-pair-differs-requires
-pair-differs-requires c κs = search needs
+pair-number-requires : tie.Need-pair-number-requires
+pair-number-requires c κs = search needs
 
-returns-2 : tie.Need-returns-2
-returns-2 c =
-    let d = c .before .before .before .before .before in
-    let s = start (answered d) in
-    pair-refused (m s) (k s) (bs s) (branch (answered d) .if1 .left) (found d) (is d) (sym (c .before .pair-differs .ensures) ∙ c .if2 .taken)
+mul-t27 : tie.Need-mul-t27
+mul-t27 c = search needs
 
-mul-t35 : tie.Need-mul-t35
-mul-t35 c = search needs
+element-set-from-meter : tie.Need-element-set-from-meter
+element-set-from-meter c = search needs
 
-element-set-from-after : tie.Need-element-set-from-after
-element-set-from-after c = search needs
+verdict-of-requires : tie.Need-verdict-of-requires
+verdict-of-requires c κs = search needs
 
-returns-3 : tie.Need-returns-3
-returns-3 c =
-    let d = c .before .before .before in
-    let s = start d in
-    record-refused (m s) (k s) (bs s) (branch d .if1 .left) (c .before .number .given .0 .0) (sym (ap meaning (c .before .number .given .1)) ∙ d .properties-of .ensures)
-
-returns-4 : tie.Need-returns-4
-returns-4 c =
-    let d = c .before .before .before .before .before .before in
-    let s = start (answered d) in
-    analysis-accepted (m s) (k s) (bs s) (branch (answered d) .if1 .left) (found d) (is d) (sym (c .before .before .pair-differs .ensures) ∙ c .before .if2 .left)
+returns : tie.Need-returns
+returns c =
+    let j = c .before in
+    let s = j .before .before in
+    let v = c .verdict-of .ensures in
+    ⊎-elim
+    (λ x.
+    let e = is-refused s (x .1 .ensures) (x .3 .given .1) in
+    analysis-refused (m s) (k s) (bs s) v (x .6 ∙ record-refused (m s) (k s) (bs s) (x .0 .taken) _ e) (λ z. number-of-refused (bs s) _ e .1 (sym (x .6) ∙ z)) (x .5))
+    (⊎-elim
+    (λ x.
+    let e = is-accepted s (x .1 .ensures) (x .3 .given .1) in
+    analysis-accepted (m s) (k s) (bs s) v (x .12 ∙ record-accepted (m s) (k s) (bs s) (x .0 .taken) _ e (x .8 .ensures)) (x .12 ∙ x .9 .taken) _ e (x .11))
+    (⊎-elim
+    (λ x.
+    let e = is-accepted s (x .1 .ensures) (x .3 .given .1) in
+    analysis-refused (m s) (k s) (bs s) v (x .11 ∙ record-accepted (m s) (k s) (bs s) (x .0 .taken) _ e (x .8 .ensures)) (λ z. x .9 .left (sym (x .11) ∙ z)) (x .10))
+    (λ x.
+    analysis-refused (m s) (k s) (bs s) v (x .2 ∙ analysis-above (k s) (bs s) (streamAt (m s) (k s)) (x .0 .left)) (λ z. omega (arith, x .2)) (x .1))))
+    (j .if1 .came)
 
 pub analysis-spec : {M : Type 1} → statement M
 analysis-spec =
     tie.close
     (tie.spec
-    returns
+    properties-of-requires
+    enum-known-refusal
+    enum-known-properties
     mul-before
     element-copy-out-before
-    properties-of-requires
-    enum-known-number
-    enum-known-properties
     shared-slice-read-combustion
     shared-slice-read-metering
-    pair-differs-requires
-    returns-2
-    mul-t35
-    element-set-from-after
-    returns-3
-    returns-4)
+    pair-number-requires
+    mul-t27
+    element-set-from-meter
+    verdict-of-requires
+    returns)

@@ -3,8 +3,8 @@ use native.Mathlib.Omega.{arith}
 use borrow.Author.Needs.{needs}
 use Rattle.meter.specs.State.{perMJ}
 use Rattle.meter.proofs.Registers.{carried}
-use Rattle.meter.proofs.book.Statement.{statement}
-use Rattle.meter.proofs.book.Tie as tie
+use Rattle.meter.proofs.booked.Statement.{statement}
+use Rattle.meter.proofs.booked.Tie as tie
 
 add-rest : tie.Need-add-rest
 add-rest c = search needs
@@ -15,5 +15,5 @@ add-t5 c = search needs
 returns : tie.Need-returns
 returns c = let a = c .before .before .args in carried perMJ (omega arith) (a .energy) (a .n)
 
-pub book-spec : {M : Type 1} → statement M
-book-spec = tie.close (tie.spec add-rest add-t5 returns)
+pub booked-spec : {M : Type 1} → statement M
+booked-spec = tie.close (tie.spec add-rest add-t5 returns)

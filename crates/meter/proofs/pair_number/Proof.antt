@@ -1,0 +1,22 @@
+-- The pair of the analysis in force, where there is one.
+use borrow.Author.Needs.{needs}
+use Rattle.meter.proofs.pair_number.Statement.{statement}
+use Rattle.meter.proofs.pair_number.Tie as tie
+
+enum-told : tie.Need-enum-told
+enum-told c = search needs
+
+enum-known-earlier : tie.Need-enum-known-earlier
+enum-known-earlier c = search needs
+
+returns : tie.Need-returns
+returns c = rw (c .before .before .before .before .earlier .given .1, c .if1 .taken)
+
+returns-2 : tie.Need-returns-2
+returns-2 c = search needs
+
+returns-3 : tie.Need-returns-3
+returns-3 c = rw (c .before .before .before .before .earlier .given .1, c .if1 .left)
+
+pub pair-number-spec : {M : Type 1} → statement M
+pair-number-spec = tie.close (tie.spec enum-told enum-known-earlier returns returns-2 returns-3)
