@@ -26,6 +26,10 @@ plus x y = (x .num * y .den + y .num * x .den) over (x .den * y .den)
 abbrev pub times : ℕ → Fraction → Fraction
 times k x = (k * x .num) over (x .den)
 
+-- x / k
+abbrev pub dividedBy : Fraction → ℕ → Fraction
+dividedBy x k = x .num over (x .den * k)
+
 -- v differs from x by at most t: v ≤ x + t and x ≤ v + t, each multiplied by the two denominators, which are above 0
 pub record Within (t : Fraction) (v : ℕ) (x : Fraction) : Type 0 where
   pub proper : (0 < x .den) × (0 < t .den)

@@ -1,0 +1,121 @@
+-- A stream of the meter beside what the tally keeps for it: where they are alike, a call tries the same conditions on both, answers
+-- alike, and leaves them alike.
+use mathlib.Core.Path.{_≡_, refl, sym, ap, subst, _∙_}
+use mathlib.Core.Bool.{true≢false}
+use mathlib.Core.List.{List, [], _∷_, _++_}
+use mathlib.Core.Option.{Option, none, some}
+use Prim.Native.Nat.{ℕ, _+_, _*_, _/_, _%_, _<_}
+use native.Mathlib.Nat.{mod-lt}
+use native.Mathlib.Omega.{arith}
+use Rattle.rounding.specs.Near.{near}
+use Rattle.rounding.specs.Fraction.{Fraction, whole, plus, times, Within}
+use Rattle.rounding.proofs.FractionLaws.{within-plus, within-times}
+use Rattle.records.specs.Order.{firstOf, accepted}
+use Rattle.records.specs.Format.{combustionIn, meteringIn, contentsIn}
+use Rattle.records.specs.Conditions.{recordOrder}
+use Rattle.records.proofs.Accepted.{acceptable}
+use Rattle.properties.specs.Chain.{Six, Hs, sixOf, propertiesOf}
+use Rattle.properties.specs.Unrounded as unrounded
+use Rattle.properties.specs.Answers.{numbers}
+use Rattle.properties.proofs.Gas.{distances}
+use Rattle.properties.proofs.Outcomes.{accepted-properties, clear-of-accepted}
+use Rattle.meter.specs.declared.InForce.{InForce}
+use Rattle.meter.specs.declared.InForce.the-variants.{Nothing, Known}
+use Rattle.meter.specs.declared.Gas.{Gas}
+use Rattle.meter.specs.declared.Register.{Register}
+use Rattle.meter.specs.declared.Stream.{Stream}
+use Rattle.meter.specs.State.{hsOf, amountIn, perMJ}
+use Rattle.meter.specs.Conditions.{pairDiffers, noAnalysis, analysisOrder, meteringOrder, meanOrder}
+use Rattle.meter.specs.Calls.{gasOf, analysed, booked, metered, meanIn, totalsIn}
+use Rattle.meter.proofs.Registers.{amount-booked, whole-of, rest-of}
+use Rattle.meter.proofs.Orders.{clear-analysis, clear-metering}
+use Rattle.tally.specs.Tally.{analysis, metering, totals, mean, Given, totalsAre, meanIs, Account, grown, Kept, otherPair, noRecord, orderOf, meteredBy, keptAfter, givenBy}
+use Rattle.tally.specs.Demand.{SameInForce, nothing, known}
+
+-- the pair of a record in force
+abbrev pub pairOf : Option (List ℕ) → Option (ℕ × ℕ)
+pairOf none = none
+pairOf (some bs) = some (combustionIn bs, meteringIn bs)
+
+-- a register with u units of its rest to one whole, beside an account at the volume v
+pub record AlikeEnergy (u v : ℕ) (e : Register) (a : Account) : Type 0 where
+  pub rest : e .rest < u
+  pub amount : amountIn u e ≡ a .booked
+  pub within : Within (whole (2 * v)) (a .booked) (a .exact)
+
+pub record Alike (s : Stream) (l : Kept) : Type 0 where
+  pub inForce : SameInForce (s .analysis) (l .inForce)
+  pub pair : l .pair ≡ pairOf (l .inForce)
+  pub volume : s .volume ≡ l .volume
+  pub energy : AlikeEnergy perMJ (l .volume) (s .energy) (l .energy)
+
+-- a volume w at a calorific value h, which is x unrounded
+energy-grows : (u v w h : ℕ) (x : Fraction) (e : Register) (a : Account) → 0 < u → Within (whole 2) h x → AlikeEnergy u v e a →
+    AlikeEnergy u (v + w) (booked u e (w * h)) (grown w h x a)
+energy-grows u v w h x e a p near alike =
+    record {
+      rest = mod-lt (amountIn u e + w * h) p;
+      amount = amount-booked u p e (w * h) ∙ ap (λ (n : ℕ). n + w * h) (alike .amount);
+      within =
+          subst (λ (t : ℕ). Within (whole t) (a .booked + w * h) (plus (a .exact) (times w x))) (omega arith)
+          (within-plus (2 * v) (w * 2) (a .booked) (w * h) (a .exact) (times w x) (alike .within) (within-times w 2 h x near));
+    }
+
+-- the same conditions
+same-pair : {i : InForce} {o : Option (List ℕ)} → SameInForce i o → (c m : ℕ) → pairDiffers i c m ≡ otherPair (pairOf o) c m
+same-pair nothing c m = refl
+same-pair (known bs gas ec em e) c m = rw (ec, em)
+
+same-none : {i : InForce} {o : Option (List ℕ)} → SameInForce i o → noAnalysis i ≡ noRecord o
+same-none nothing = refl
+same-none (known bs gas ec em e) = refl
+
+module _ (s : Stream) (l : Kept) (h : Alike s l) (k : ℕ) where
+  pub analysis-order : (bs : List ℕ) → analysisOrder k bs s ≡ orderOf k (analysis bs) l
+  analysis-order bs = rw (same-pair (h .inForce) (combustionIn bs) (meteringIn bs), sym (h .pair))
+
+  pub metering-order : (v : ℕ) → meteringOrder k v s ≡ orderOf k (metering v) l
+  metering-order v = rw (same-none (h .inForce), h .volume)
+
+  pub mean-order : meanOrder k s ≡ orderOf k mean l
+  mean-order = rw (h .volume)
+
+  -- an accepted analysis
+  pub analysis-alike : (bs : List ℕ) → firstOf (analysisOrder k bs s) ≡ 0 → Alike (analysed s bs) (keptAfter (analysis bs) l)
+  analysis-alike bs z =
+      record {
+        inForce = known bs (gasOf bs) refl refl (accepted-properties bs (clear-analysis k bs s z .clear));
+        pair = refl;
+        volume = h .volume;
+        energy = h .energy;
+      }
+
+  -- an accepted volume
+  pub metering-alike : (v : ℕ) → firstOf (meteringOrder k v s) ≡ 0 → Alike (metered s v) (keptAfter (metering v) l)
+  metering-alike v z = go refl refl (h .inForce)
+    where
+      go : {i : InForce} {o : Option (List ℕ)} → s .analysis ≡ i → l .inForce ≡ o → SameInForce i o → Alike (metered s v) (meteredBy o v l)
+      go ei eo nothing = elim (true≢false (sym (ap noAnalysis ei) ∙ clear-metering k v s z .analysed)) [ ]
+      go ei eo (known bs gas ec em e) =
+          let found = clear-of-accepted bs (numbers (gas .properties)) e in
+          let heat : hsOf (s .analysis) ≡ Hs (contentsIn bs) = ap hsOf ei ∙ sym (ap (λ (p : Six). p .Hs) (found .1)) in
+          record {
+            inForce = h .inForce;
+            pair = h .pair;
+            volume = ap (λ (n : ℕ). n + v) (h .volume);
+            energy =
+                subst
+                (λ (n : ℕ).
+                AlikeEnergy perMJ (l .volume + v) (booked perMJ (s .energy) (v * n)) (grown v (Hs (contentsIn bs)) (unrounded.Hs (contentsIn bs)) (l .energy)))
+                (sym heat)
+                (energy-grows perMJ (l .volume) v (Hs (contentsIn bs)) (unrounded.Hs (contentsIn bs)) (s .energy) (l .energy) (omega arith)
+                (distances (contentsIn bs) (acceptable bs (found .0)) .Hs) (h .energy));
+          }
+
+-- the same readings
+module _ (s : Stream) (l : Kept) (h : Alike s l) where
+  pub totals-alike : totalsAre (s .volume) (s .energy .whole) (s .energy .rest) ≡ givenBy totals l
+  totals-alike = cc (h .volume, whole-of perMJ (s .energy) (h .energy .rest), rest-of perMJ (s .energy) (h .energy .rest), h .energy .amount)
+
+  pub mean-alike : meanIs (meanIn s) ≡ givenBy mean l
+  mean-alike = cc (h .energy .amount, h .volume)

@@ -1,0 +1,98 @@
+-- Demand 3, for every list of calls from a fresh meter.
+use mathlib.Core.Path.{_≡_, refl, sym, ap, _∙_}
+use mathlib.Core.List.{List, [], _∷_, _++_}
+use Prim.Native.Nat.{ℕ, zero, suc, _+_, _*_, _<_}
+use native.Mathlib.Nat.{mul-le-mul-right, mul-pos}
+use native.Mathlib.Omega.{arith}
+use borrow.Author.Tests.{le-ltb, ne-eqb, eq-eqb}
+use lib.ListN.{getD, drop, replicate}
+use Rattle.rounding.specs.Near.{near}
+use Rattle.rounding.specs.Fraction.{Fraction, whole, half, dividedBy, _over_, Within}
+use Rattle.rounding.proofs.NearLaws.{near-half}
+use Rattle.records.specs.Order.{Order, firstOf, refused, accepted, decided}
+use Rattle.records.specs.Format.{combustionIn, meteringIn, contentsIn}
+use Rattle.records.specs.Conditions.{recordOrder}
+use Rattle.records.specs.Calls.{readingOf}
+use Rattle.records.proofs.OrderLaws.{clear-first, clear-second, decided-accepted}
+use Rattle.properties.proofs.Gas.{every-accepted-record}
+use Rattle.meter.specs.declared.Meter.{Meter}
+use Rattle.meter.specs.State.{freshStream, freshMeter, streamAt, perMJ}
+use Rattle.meter.proofs.Kept.{fresh-is-sound}
+use Rattle.tally.specs.Tally.{analysis, Call, Given, done, Answer, Kept, freshKept, Tally, freshTally, keptAt, above15, otherPair, orderOf, numberFor, answerTo, tallyAfter, answersTo, tallied}
+use Rattle.tally.specs.Run.{Run, ended, after, by-totals, by-mean}
+use Rattle.tally.specs.Demand.{acceptedVolume, AcceptedIn, here, later, Analysed, nothing, Near, OfStream, Demand3, Claim}
+use Rattle.tally.proofs.Alike.{Alike}
+use Rattle.tally.proofs.Steps.{Linked, asked, step}
+use Rattle.tally.proofs.Volumes.{volume-sum}
+
+-- near(n / v) is within t + 1 of x / v, where n is within t × v of x
+mean-within : (t n v : ℕ) (x : Fraction) → 0 < v → Within (whole (t * v)) n x → Within (whole (t + 1)) (near n v) (dividedBy x v)
+mean-within t n v x p h =
+    let r = near-half n v p in
+    record {
+      proper = (mul-pos (h .proper .0) p, omega arith);
+      below = omega (arith, h .below, mul-le-mul-right (x .den) (r .below));
+      above = omega (arith, h .above, mul-le-mul-right (x .den) (r .above));
+    }
+
+-- a fresh meter beside a fresh tally
+fresh-alike : Alike freshStream freshKept
+fresh-alike = record { inForce = nothing; pair = refl; volume = refl; energy = record { rest = omega arith; amount = refl; within = omega arith } }
+
+everywhere : {A : Type 0} (n k : ℕ) (x : A) → getD (replicate n x) k x ≡ x
+everywhere zero k x = refl
+everywhere (suc n) zero x = refl
+everywhere (suc n) (suc k) x = everywhere n k x
+
+fresh-linked : Linked freshMeter freshTally
+fresh-linked =
+    record { sound = fresh-is-sound; count = refl; each = λ k. rw (everywhere 16 k freshStream, everywhere 16 k freshKept) fresh-alike }
+
+-- a list of calls
+record Ran (t : Tally) (cs : List Call) (rs : List Answer) (m : Meter) : Type 0 where
+  pub answers : rs ≡ answersTo t cs
+  pub linked : Linked m (tallied t cs)
+
+run : {m : Meter} {cs : List Call} {rs : List Answer} {m₂ : Meter} (t : Tally) → Linked m t → Run m cs rs m₂ → Ran t cs rs m₂
+run t h (ended m) = record { answers = refl; linked = h }
+run t h (after m m₁ m₂ c a cs rs s more) =
+    let n = step m t h s in
+    let r = run (tallyAfter t c) (n .linked) more in
+    record { answers = cc (n .answer, r .answers); linked = r .linked }
+
+-- an accepted analysis of the list
+analysis-shown : (bs : List ℕ) (k : ℕ) (s : Kept) → firstOf (orderOf k (analysis bs) s) ≡ 0 → Analysed bs
+analysis-shown bs k s z =
+    let last : Order = (14, otherPair (s .pair) (combustionIn bs) (meteringIn bs)) ∷ [] in
+    let clear = clear-first (recordOrder bs) last tt (clear-second ((13, above15 k) ∷ []) (recordOrder bs ++ last) tt z) in
+    let reads : readingOf bs ≡ accepted (contentsIn bs) = ap (λ (n : ℕ). decided n (contentsIn bs)) clear in
+    record { contents = contentsIn bs; reads = reads; shown = every-accepted-record bs (contentsIn bs) reads }
+
+analyses : (bs : List ℕ) (t : Tally) {cs : List Call} {rs : List Answer} → rs ≡ answersTo t cs → AcceptedIn bs cs rs → Analysed bs
+analyses bs t e (here k cs rs) =
+    analysis-shown bs k (keptAt t k) (decided-accepted _ done done (sym (ap (λ (l : List Answer). getD l 0 (refused 0)) e)) .0)
+analyses bs t e (later c a cs rs more) = analyses bs (tallyAfter t c) (ap (drop 1) e) more
+
+pub demand3 : Claim
+demand3 m₀ m cs rs made ran =
+    let start : Linked m₀ freshTally = rw (made tt) fresh-linked in
+    let r = run freshTally start ran in
+    let t = tallied freshTally cs in
+    record {
+      answers = r .answers;
+      each = λ k b.
+          let l = keptAt t k in
+          let a = r .linked .each k in
+          record {
+            volume =
+                omega
+                (arith, volume-sum k b freshTally cs refl, ap (λ (x : Kept). x .volume) (everywhere 16 k freshKept), ap (acceptedVolume k cs) (r .answers));
+            totals = λ x got. step m t (r .linked) (by-totals k x got) .answer ∙ rw (le-ltb 15 k (omega arith));
+            mean = λ x got p. step m t (r .linked) (by-mean k x got) .answer ∙ rw (le-ltb 15 k (omega arith), ne-eqb (l .volume) 0 (omega arith));
+            no-mean = λ x got p. step m t (r .linked) (by-mean k x got) .answer ∙ rw (le-ltb 15 k (omega arith), eq-eqb (l .volume) 0 p);
+            near = record { energy = a .energy .within; mean = λ p. mean-within 2 (l .energy .booked) (l .volume) (l .energy .exact) p (a .energy .within) };
+            inForce = a .inForce;
+          };
+      analyses = λ bs. analyses bs freshTally (r .answers);
+      asked = asked m (r .linked .sound);
+    }

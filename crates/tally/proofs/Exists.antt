@@ -1,0 +1,82 @@
+-- The claim speaks of something: there is a fresh meter, and every list of calls has a run from every meter.
+use mathlib.Core.Path.{_≡_, refl}
+use mathlib.Core.List.{List, [], _∷_}
+use Prim.Native.Nat.{ℕ}
+use Rattle.records.specs.Order.{Outcome, refused, accepted, firstOf, decided, otherwise}
+use Rattle.records.specs.Answers.{verdictOf}
+use Rattle.records.proofs.OrderLaws.{gives}
+use Rattle.meter.specs.declared.Meter.{Meter}
+use Rattle.meter.specs.declared.StreamTotals.{StreamTotals}
+use Rattle.meter.specs.declared.TotalsAnswer.{TotalsAnswer}
+use Rattle.meter.specs.declared.TotalsAnswer.the-variants as totals-answer
+use Rattle.meter.specs.declared.MeanAnswer.{MeanAnswer}
+use Rattle.meter.specs.declared.MeanAnswer.the-variants as mean-answer
+use Rattle.meter.specs.State.{freshMeter, streamAt, withStream}
+use Rattle.meter.specs.Conditions.{analysisOrder, meteringOrder}
+use Rattle.meter.specs.Calls.{analysed, metered, analysisOf, meteringOf, totalsOf, meanOf}
+use Rattle.meter.specs.Answers.{totalsMeaning, meanMeaning}
+use Rattle.tally.specs.Tally.{Ask, analysis, metering, totals, mean, Call, Answer}
+use Rattle.tally.specs.Run.{Step, by-analysis, by-metering, by-totals, by-mean, Run, ended, after}
+use Rattle.tally.specs.Demand.{HasRun, EveryListHasRun, HasFresh}
+
+pub has-fresh : HasFresh
+has-fresh = record { meter = freshMeter; returns = λ p. refl }
+
+-- an answer with each meaning
+totals-with : Outcome StreamTotals → TotalsAnswer
+totals-with (refused n) = totals-answer.Refused n
+totals-with (accepted t) = totals-answer.Accepted t
+
+totals-means : (o : Outcome StreamTotals) → totalsMeaning (totals-with o) ≡ o
+unfolding totals-with
+totals-means (refused n) = refl
+totals-means (accepted t) = refl
+
+mean-with : Outcome ℕ → MeanAnswer
+mean-with (refused n) = mean-answer.Refused n
+mean-with (accepted x) = mean-answer.Accepted (record { value = x })
+
+mean-means : (o : Outcome ℕ) → meanMeaning (mean-with o) ≡ o
+unfolding mean-with
+mean-means (refused n) = refl
+mean-means (accepted x) = refl
+
+record HasStep (m : Meter) (c : Call) : Type 0 where
+  pub answer : Answer
+  pub meter : Meter
+  pub step : Step m c answer meter
+
+has-step : (m : Meter) (k : ℕ) (ask : Ask) → HasStep m (record { stream = k; ask = ask })
+has-step m k (analysis bs) =
+    let n = firstOf (analysisOrder k bs (streamAt m k)) in
+    let new = withStream m k (analysed (streamAt m k) bs) in
+    record {
+      answer = _;
+      meter = _;
+      step =
+          by-analysis ([], tt) k (record { ptr = (0, 0); name = 0; now = bs }) (record { meter = otherwise m (decided n new); verdict = verdictOf n })
+          (λ p. gives n new m (otherwise m (decided n new)) (verdictOf n) refl refl);
+    }
+has-step m k (metering v) =
+    let n = firstOf (meteringOrder k v (streamAt m k)) in
+    let new = withStream m k (metered (streamAt m k) v) in
+    record {
+      answer = _;
+      meter = _;
+      step =
+          by-metering k v (record { meter = otherwise m (decided n new); verdict = verdictOf n })
+          (λ p. gives n new m (otherwise m (decided n new)) (verdictOf n) refl refl);
+    }
+has-step m k totals = record { answer = _; meter = _; step = by-totals k (totals-with (totalsOf m k)) (λ p. totals-means (totalsOf m k)) }
+has-step m k mean = record { answer = _; meter = _; step = by-mean k (mean-with (meanOf m k)) (λ p. mean-means (meanOf m k)) }
+
+pub every-list-has-run : EveryListHasRun
+every-list-has-run m [] = record { answers = []; meter = m; run = ended m }
+every-list-has-run m (c ∷ cs) =
+    let s = has-step m (c .stream) (c .ask) in
+    let r = every-list-has-run (s .meter) cs in
+    record {
+      answers = s .answer ∷ r .answers;
+      meter = r .meter;
+      run = after m (s .meter) (r .meter) c (s .answer) cs (r .answers) (s .step) (r .run);
+    }

@@ -1,0 +1,6 @@
+pub mod Alike
+pub mod Steps
+pub mod Volumes
+pub mod Demand
+pub mod Exists
+pub mod Cited

@@ -1,0 +1,109 @@
+-- Demand 3: one claim about a whole list of calls from a fresh meter, their answers, and the meter after them.
+use mathlib.Core.Path.{_≡_}
+use mathlib.Core.List.{List, [], _∷_}
+use mathlib.Core.Bool.{cond}
+use mathlib.Core.Option.{Option, none, some}
+use Prim.Native.Nat.{ℕ, _+_, _*_, _/_, _%_, _<_}
+use contract.Lifetimes.{Lfts}
+use denote.Ref.{RefT}
+use lib.Dec.{eqb}
+use Rattle.rounding.specs.Near.{near}
+use Rattle.rounding.specs.Fraction.{whole, dividedBy, Within}
+use Rattle.records.specs.Order.{refused, accepted}
+use Rattle.records.specs.Format.{Contents, combustionIn, meteringIn}
+use Rattle.records.specs.Calls.{readingOf}
+use Rattle.properties.specs.Chain.{propertiesOf}
+use Rattle.properties.specs.Answers.{numbers}
+use Rattle.properties.specs.Accepted.{Shown}
+use Rattle.meter.specs.declared.Gas.{Gas}
+use Rattle.meter.specs.declared.InForce.{InForce}
+use Rattle.meter.specs.declared.InForce.the-variants.{Nothing, Known}
+use Rattle.meter.specs.declared.Meter.{Meter}
+use Rattle.meter.specs.declared.TotalsAnswer.{TotalsAnswer}
+use Rattle.meter.specs.declared.MeanAnswer.{MeanAnswer}
+use Rattle.meter.specs.State.{streamAt}
+use Rattle.tally.specs.Tally.{Ask, analysis, metering, totals, mean, Call, Given, done, totalsAre, meanIs, Answer, Account, Kept, keptAt, freshTally, answersTo, tallied}
+use Rattle.tally.specs.Run.{AnalysisAsks, MeteringAsks, TotalsAsks, MeanAsks, FreshReturns, TotalsReturns, MeanReturns, totalsAnswer, meanAnswer, Run}
+
+-- the volume that a call added: that of an accepted metering call
+abbrev pub addedBy : Ask → Answer → ℕ
+addedBy (analysis bs) a = 0
+addedBy (metering v) (refused n) = 0
+addedBy (metering v) (accepted g) = v
+addedBy totals a = 0
+addedBy mean a = 0
+
+-- the sum of the volumes that were accepted for the stream k
+abbrev pub acceptedVolume : ℕ → List Call → List Answer → ℕ
+acceptedVolume k [] rs = 0
+acceptedVolume k (c ∷ cs) [] = 0
+acceptedVolume k (c ∷ cs) (a ∷ rs) = cond (eqb (c .stream) k) (addedBy (c .ask) a) 0 + acceptedVolume k cs rs
+
+-- an analysis with the record bs stands in the list, and was accepted
+pub data AcceptedIn (bs : List ℕ) : List Call → List Answer → Type 0 where
+  here : (k : ℕ) (cs : List Call) (rs : List Answer) → AcceptedIn bs (record { stream = k; ask = analysis bs } ∷ cs) (accepted done ∷ rs)
+  later : (c : Call) (a : Answer) (cs : List Call) (rs : List Answer) → AcceptedIn bs cs rs → AcceptedIn bs (c ∷ cs) (a ∷ rs)
+
+-- what a record reads as, with its properties, their ceilings and their distances from the unrounded formula
+pub record Analysed (bs : List ℕ) : Type 0 where
+  pub contents : Contents
+  pub reads : readingOf bs ≡ accepted contents
+  pub shown : Shown bs contents
+
+-- the analysis in force on a stream of the meter is that of the tally's record: its pair, and its properties
+pub data SameInForce : InForce → Option (List ℕ) → Type 0 where
+  nothing : SameInForce Nothing none
+  known : (bs : List ℕ) (gas : Gas) → gas .combustion ≡ combustionIn bs → gas .metering ≡ meteringIn bs →
+      accepted (numbers (gas .properties)) ≡ propertiesOf bs → SameInForce (Known gas) (some bs)
+
+-- the booked energy E is within 2 mJ per dm³ of V from the exact energy X, and where V is above 0 the mean is within 3 J/m³ of X / V
+pub record Near (v : ℕ) (a : Account) : Type 0 where
+  pub energy : Within (whole (2 * v)) (a .booked) (a .exact)
+  pub mean : 0 < v → Within (whole 3) (near (a .booked) v) (dividedBy (a .exact) v)
+
+-- the stream k after the list; s is what the tally keeps for it
+pub record OfStream (k : ℕ) (s : Kept) (cs : List Call) (rs : List Answer) (m : Meter) : Type 0 where
+  -- V is the sum of the accepted volumes
+  pub volume : s .volume ≡ acceptedVolume k cs rs
+  -- a reading of totals made then answers V, and E as whole MJ and rest
+  pub totals : (r : TotalsAnswer) → TotalsReturns m k r →
+      totalsAnswer r ≡ accepted (totalsAre (s .volume) (s .energy .booked / 1000000000) (s .energy .booked % 1000000000))
+  -- a reading of the mean made then answers near(E / V), or 18 where V is 0
+  pub mean : (r : MeanAnswer) → MeanReturns m k r → 0 < s .volume → meanAnswer r ≡ accepted (meanIs (near (s .energy .booked) (s .volume)))
+  pub no-mean : (r : MeanAnswer) → MeanReturns m k r → s .volume ≡ 0 → meanAnswer r ≡ refused 18
+  pub near : Near (s .volume) (s .energy)
+  pub inForce : SameInForce (streamAt m k .analysis) (s .inForce)
+
+-- what the contracts require of a meter, with any other arguments
+pub record Asked (m : Meter) : Type 0 where
+  pub analysis : (κs : Lfts 1) (k : ℕ) (b : RefT (List ℕ)) → AnalysisAsks κs m k b
+  pub metering : (k v : ℕ) → MeteringAsks m k v
+  pub totals : (k : ℕ) → TotalsAsks m k
+  pub mean : (k : ℕ) → MeanAsks m k
+
+pub record Demand3 (cs : List Call) (rs : List Answer) (m : Meter) : Type 0 where
+  -- each call is accepted where the tally accepts it, refused by the tally's number where not, and each accepted reading answers what
+  -- the tally gives
+  pub answers : rs ≡ answersTo freshTally cs
+  pub each : (k : ℕ) → k < 16 → OfStream k (keptAt (tallied freshTally cs) k) cs rs m
+  -- each accepted analysis of the list
+  pub analyses : (bs : List ℕ) → AcceptedIn bs cs rs → Analysed bs
+  -- what the contracts require holds after the list
+  pub asked : Asked m
+
+-- the claim
+abbrev pub Claim : Type 0
+Claim = (m₀ m : Meter) (cs : List Call) (rs : List Answer) → FreshReturns m₀ → Run m₀ cs rs m → Demand3 cs rs m
+
+-- it speaks of something: every list of calls has a run from every meter, and there is a fresh meter
+pub record HasRun (m : Meter) (cs : List Call) : Type 0 where
+  pub answers : List Answer
+  pub meter : Meter
+  pub run : Run m cs answers meter
+
+abbrev pub EveryListHasRun : Type 0
+EveryListHasRun = (m : Meter) (cs : List Call) → HasRun m cs
+
+pub record HasFresh : Type 0 where
+  pub meter : Meter
+  pub returns : FreshReturns meter

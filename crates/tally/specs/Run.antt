@@ -1,0 +1,77 @@
+-- What the functions of crates/meter did on a list of calls: each step is what the contract of the function promises of the value that
+-- it returned. `Asked` is what the contract requires and `Learnt` what it ensures, both as the checker reads them from the code.
+use mathlib.Core.List.{List, [], _∷_}
+use Prim.Native.Nat.{ℕ}
+use contract.Lifetimes.{Lfts}
+use denote.Ref.{RefT, now}
+use Rattle.records.specs.declared.Verdict.{Verdict}
+use Rattle.records.specs.Order.{mapped}
+use Rattle.records.specs.Answers.{meaning}
+use Rattle.meter.specs.declared.Meter.{Meter}
+use Rattle.meter.specs.declared.Changed.{Changed}
+use Rattle.meter.specs.declared.StreamTotals.{StreamTotals}
+use Rattle.meter.specs.declared.TotalsAnswer.{TotalsAnswer}
+use Rattle.meter.specs.declared.MeanAnswer.{MeanAnswer}
+use Rattle.meter.specs.Answers.{totalsMeaning, meanMeaning}
+use Rattle.meter.proofs.fresh.Reads as fresh-reads
+use Rattle.meter.proofs.analysis.Reads as analysis-reads
+use Rattle.meter.proofs.metering.Reads as metering-reads
+use Rattle.meter.proofs.totals.Reads as totals-reads
+use Rattle.meter.proofs.mean.Reads as mean-reads
+use Rattle.tally.specs.Tally.{Ask, analysis, metering, totals, mean, Call, Given, done, totalsAre, meanIs, Answer}
+
+-- what the contract of each function requires
+abbrev pub AnalysisAsks : Lfts 1 → Meter → ℕ → RefT (List ℕ) → Type 0
+AnalysisAsks κs m k b = analysis-reads.Asked κs (m, (k, (b, tt)))
+
+abbrev pub MeteringAsks : Meter → ℕ → ℕ → Type 0
+MeteringAsks m k v = metering-reads.Asked tt (m, (k, (v, tt)))
+
+abbrev pub TotalsAsks : Meter → ℕ → Type 0
+TotalsAsks m k = totals-reads.Asked tt (m, (k, tt))
+
+abbrev pub MeanAsks : Meter → ℕ → Type 0
+MeanAsks m k = mean-reads.Asked tt (m, (k, tt))
+
+-- what is known of a value that the function returned: where its contract's `requires` holds, its `ensures` does
+abbrev pub FreshReturns : Meter → Type 0
+FreshReturns m = fresh-reads.Asked tt tt → fresh-reads.Learnt tt tt m tt
+
+abbrev pub AnalysisReturns : Lfts 1 → Meter → ℕ → RefT (List ℕ) → Changed → Type 0
+AnalysisReturns κs m k b r = AnalysisAsks κs m k b → analysis-reads.Learnt κs (m, (k, (b, tt))) r (m, (k, (b, tt)))
+
+abbrev pub MeteringReturns : Meter → ℕ → ℕ → Changed → Type 0
+MeteringReturns m k v r = MeteringAsks m k v → metering-reads.Learnt tt (m, (k, (v, tt))) r (m, (k, (v, tt)))
+
+abbrev pub TotalsReturns : Meter → ℕ → TotalsAnswer → Type 0
+TotalsReturns m k r = TotalsAsks m k → totals-reads.Learnt tt (m, (k, tt)) r (m, (k, tt))
+
+abbrev pub MeanReturns : Meter → ℕ → MeanAnswer → Type 0
+MeanReturns m k r = MeanAsks m k → mean-reads.Learnt tt (m, (k, tt)) r (m, (k, tt))
+
+-- document 01's number and values for each case of an answer
+abbrev pub changeAnswer : Verdict → Answer
+changeAnswer v = meaning v done
+
+abbrev pub totalsAnswer : TotalsAnswer → Answer
+totalsAnswer r = mapped (λ (t : StreamTotals). totalsAre (t .volume) (t .energy .whole) (t .energy .rest)) (totalsMeaning r)
+
+abbrev pub meanAnswer : MeanAnswer → Answer
+meanAnswer r = mapped meanIs (meanMeaning r)
+
+-- one call on a meter: its answer, and the meter that it returned, or that it left as it was
+pub data Step (m : Meter) : Call → Answer → Meter → Type 0 where
+  by-analysis : (κs : Lfts 1) (k : ℕ) (b : RefT (List ℕ)) (r : Changed) → AnalysisReturns κs m k b r →
+      Step m (record { stream = k; ask = analysis (now b) }) (changeAnswer (r .verdict)) (r .meter)
+  by-metering : (k v : ℕ) (r : Changed) → MeteringReturns m k v r →
+      Step m (record { stream = k; ask = metering v }) (changeAnswer (r .verdict)) (r .meter)
+  by-totals : (k : ℕ) (r : TotalsAnswer) → TotalsReturns m k r →
+      Step m (record { stream = k; ask = totals }) (totalsAnswer r) m
+  by-mean : (k : ℕ) (r : MeanAnswer) → MeanReturns m k r →
+      Step m (record { stream = k; ask = mean }) (meanAnswer r) m
+
+-- a list of calls, each on the meter as the call before returned or left it
+pub data Run : Meter → List Call → List Answer → Meter → Type 0 where
+  ended : (m : Meter) → Run m [] [] m
+  after : (m m₁ m₂ : Meter) (c : Call) (a : Answer) (cs : List Call) (rs : List Answer) → Step m c a m₁ → Run m₁ cs rs m₂ →
+      Run m (c ∷ cs) (a ∷ rs) m₂

@@ -1,0 +1,140 @@
+-- The term `tally` of document 01: what a list of calls comes to, from the calls and their arguments alone. It knows no meter, and no
+-- answer of one.
+use mathlib.Core.Bool.{Bool, true, false, not, _||_}
+use mathlib.Core.List.{List, [], _∷_, _++_}
+use mathlib.Core.Option.{Option, none, some}
+use Prim.Native.Nat.{ℕ, _+_, _*_, _/_, _%_}
+use lib.Dec.{eqb, ltb}
+use lib.ListN.{getD, set, replicate}
+use Rattle.rounding.specs.Near.{near}
+use Rattle.rounding.specs.Fraction.{Fraction, whole, plus, times}
+use Rattle.records.specs.Order.{Order, Outcome, firstOf, decided, otherwise}
+use Rattle.records.specs.Format.{combustionIn, meteringIn, contentsIn}
+use Rattle.records.specs.Conditions.{recordOrder}
+use Rattle.properties.specs.Chain.{Hs}
+use Rattle.properties.specs.Unrounded as unrounded
+
+-- what a call asks: an analysis with its record, a metering with its volume in dm³, or one of the two readings
+pub data Ask : Type 0 where
+  analysis : List ℕ → Ask
+  metering : ℕ → Ask
+  totals : Ask
+  mean : Ask
+
+-- a call: the stream that it names, and what it asks
+pub record Call : Type 0 where
+  pub stream : ℕ
+  pub ask : Ask
+
+-- what an accepted call answers: nothing more; the volume, whole MJ and rest in mJ; the mean
+pub data Given : Type 0 where
+  done : Given
+  totalsAre : ℕ → ℕ → ℕ → Given
+  meanIs : ℕ → Given
+
+-- the answer to a call: the number of its refusal, or what it gives
+abbrev pub Answer : Type 0
+Answer = Outcome Given
+
+-- an energy in mJ: E as booked, and X exact
+pub record Account : Type 0 where
+  pub booked : ℕ
+  pub exact : Fraction
+
+-- v more dm³ at a calorific value that is h, and x unrounded: E grows by v × h, and X by v × x, by cross multiplication
+abbrev pub grown : ℕ → ℕ → Fraction → Account → Account
+grown v h x a = record { booked = a .booked + v * h; exact = plus (a .exact) (times v x) }
+
+-- what the tally keeps for a stream: the record in force, the pair (combustion, metering), the volume V in dm³, and the energy
+pub record Kept : Type 0 where
+  pub inForce : Option (List ℕ)
+  pub pair : Option (ℕ × ℕ)
+  pub volume : ℕ
+  pub energy : Account
+
+-- at first: no record, no pair, and V, E and X are 0
+abbrev pub freshKept : Kept
+freshKept = record { inForce = none; pair = none; volume = 0; energy = record { booked = 0; exact = whole 0 } }
+
+-- the streams 0 to 15
+abbrev pub Tally : Type 0
+Tally = List Kept
+
+abbrev pub freshTally : Tally
+freshTally = replicate 16 freshKept
+
+abbrev pub keptAt : Tally → ℕ → Kept
+keptAt t k = getD t k freshKept
+
+-- 13: stream above 15
+abbrev pub above15 : ℕ → Bool
+above15 k = ltb 15 k
+
+-- 14: pair is not the stream's; while there is no pair, it does not hold
+abbrev pub otherPair : Option (ℕ × ℕ) → ℕ → ℕ → Bool
+otherPair none c m = false
+otherPair (some pair) c m = not (eqb (pair .0) c) || not (eqb (pair .1) m)
+
+-- 15: volume above 10,000,000
+abbrev pub largeVolume : ℕ → Bool
+largeVolume v = ltb 10000000 v
+
+-- 16: stream has no analysis
+abbrev pub noRecord : Option (List ℕ) → Bool
+noRecord none = true
+noRecord (some bs) = false
+
+-- 17: volume total would pass 999,999,999,999
+abbrev pub wouldPass : ℕ → ℕ → Bool
+wouldPass total v = ltb 999999999999 (total + v)
+
+-- 18: mean wanted at volume total 0
+abbrev pub noVolume : ℕ → Bool
+noVolume total = eqb total 0
+
+-- the conditions in the call's order, on the stream k with the tally's own pair, record and V: analysis 13, 1 to 12, 14; metering
+-- 13, 15, 16, 17; totals 13; mean 13, 18
+abbrev pub orderOf : ℕ → Ask → Kept → Order
+orderOf k (analysis bs) s = (13, above15 k) ∷ recordOrder bs ++ ((14, otherPair (s .pair) (combustionIn bs) (meteringIn bs)) ∷ [])
+orderOf k (metering v) s = (13, above15 k) ∷ (15, largeVolume v) ∷ (16, noRecord (s .inForce)) ∷ (17, wouldPass (s .volume) v) ∷ []
+orderOf k totals s = (13, above15 k) ∷ []
+orderOf k mean s = (13, above15 k) ∷ (18, noVolume (s .volume)) ∷ []
+
+-- an accepted volume v: V grows by v, E by v × Hs, X by v × the unrounded Hs, both of the record in force
+abbrev pub meteredBy : Option (List ℕ) → ℕ → Kept → Kept
+meteredBy none v s = s
+meteredBy (some bs) v s =
+    record { inForce = s .inForce; pair = s .pair; volume = s .volume + v; energy = grown v (Hs (contentsIn bs)) (unrounded.Hs (contentsIn bs)) (s .energy) }
+
+-- what an accepted call leaves: an analysis brings its record into force, and its pair is the stream's; a reading changes nothing
+abbrev pub keptAfter : Ask → Kept → Kept
+keptAfter (analysis bs) s = record { inForce = some bs; pair = some (combustionIn bs, meteringIn bs); volume = s .volume; energy = s .energy }
+keptAfter (metering v) s = meteredBy (s .inForce) v s
+keptAfter totals s = s
+keptAfter mean s = s
+
+-- what an accepted call answers: totals give V, and E as whole MJ and rest; the mean gives near(E / V)
+abbrev pub givenBy : Ask → Kept → Given
+givenBy (analysis bs) s = done
+givenBy (metering v) s = done
+givenBy totals s = totalsAre (s .volume) (s .energy .booked / 1000000000) (s .energy .booked % 1000000000)
+givenBy mean s = meanIs (near (s .energy .booked) (s .volume))
+
+-- one call: refused by the first condition that holds, and then the tally stays as it is, or accepted
+abbrev pub numberFor : Tally → Call → ℕ
+numberFor t c = firstOf (orderOf (c .stream) (c .ask) (keptAt t (c .stream)))
+
+abbrev pub answerTo : Tally → Call → Answer
+answerTo t c = decided (numberFor t c) (givenBy (c .ask) (keptAt t (c .stream)))
+
+abbrev pub tallyAfter : Tally → Call → Tally
+tallyAfter t c = otherwise t (decided (numberFor t c) (set t (c .stream) (keptAfter (c .ask) (keptAt t (c .stream)))))
+
+-- a list of calls: the answers, and the tally after it
+abbrev pub answersTo : Tally → List Call → List Answer
+answersTo t [] = []
+answersTo t (c ∷ cs) = answerTo t c ∷ answersTo (tallyAfter t c) cs
+
+abbrev pub tallied : Tally → List Call → Tally
+tallied t [] = t
+tallied t (c ∷ cs) = tallied (tallyAfter t c) cs
