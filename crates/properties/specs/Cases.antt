@@ -17,13 +17,18 @@ six Z Hs Hi rho d W = record { Z = Z; Hs = Hs; Hi = Hi; rho = rho; d = d; W = W 
 abbrev pub sameSix : Six → Six → Bool
 sameSix p q = eqb (p .Z) (q .Z) && eqb (p .Hs) (q .Hs) && eqb (p .Hi) (q .Hi) && eqb (p .rho) (q .rho) && eqb (p .d) (q .d) && eqb (p .W) (q .W)
 
--- K1: the six properties as printed
-abbrev pub K1 : Type 0
-K1 = propertiesOf (bytesOf (annexD 15 15)) ≡ accepted (six 997709976 38959473 35144879 74087496 60459367 50105024)
+-- the six properties that document 01 prints for K1, and Z and Hs that it prints for K2
+abbrev pub printed1 : Six
+printed1 = six 997709976 38959473 35144879 74087496 60459367 50105024
 
--- K2: Z and Hs as printed
+abbrev pub printed2 : ℕ × ℕ
+printed2 = (998001910, 37781616)
+
+abbrev pub K1 : Type 0
+K1 = propertiesOf (bytesOf (annexD 15 15)) ≡ accepted printed1
+
 abbrev pub K2 : Type 0
-K2 = mapped {B = ℕ × ℕ} (λ (p : Six). (p .Z, p .Hs)) (propertiesOf k2) ≡ accepted (998001910, 37781616)
+K2 = mapped {B = ℕ × ℕ} (λ (p : Six). (p .Z, p .Hs)) (propertiesOf k2) ≡ accepted printed2
 
 -- methane with hydrogen; the least methane with ten heavy lines; gases for which S/10 ends in .5 and in .4; every line
 abbrev pub hydrogen : ℕ → ℕ → Contents

@@ -1,3 +1,4 @@
+pub mod Cases
 pub mod Alike
 pub mod Steps
 pub mod Volumes

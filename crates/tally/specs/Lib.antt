@@ -1,3 +1,4 @@
 pub mod Tally
 pub mod Run
 pub mod Demand
+pub mod Cases
