@@ -1,5 +1,6 @@
 -- What a call that may change the meter gives, from what its code finds.
 use mathlib.Core.Path.{_≡_, refl, sym, ap, subst, _∙_}
+use mathlib.Core.Bool.{Bool}
 use mathlib.Core.List.{List, _++_}
 use Prim.Native.Nat.{ℕ, _≤_, _<_}
 use Rattle.records.specs.declared.Verdict.{Verdict}
@@ -47,10 +48,11 @@ module _ (m : Meter) (k : ℕ) (bs : List ℕ) where
       let r = number-of-refused bs n e in
       stops (recordOrder bs) fourteen (r .0) (r .1) ∙ not-above (recordOrder bs ++ fourteen) low
 
-  pub record-accepted : k ≤ 15 → (p : Properties) → accepted (numbers p) ≡ propertiesOf bs → {n : ℕ} → n ≡ firstOf fourteen →
-      n ≡ firstOf (analysisOrder k bs (streamAt m k))
-  record-accepted low p e h =
-      passes (recordOrder bs) fourteen tt refl (clear-of-accepted bs (numbers p) e .0) h ∙ not-above (recordOrder bs ++ fourteen) low
+  pub record-accepted : k ≤ 15 → (p : Properties) → accepted (numbers p) ≡ propertiesOf bs → {differs : Bool} {n : ℕ} →
+      differs ≡ pairDiffers (streamAt m k .analysis) (combustionIn bs) (meteringIn bs) → n ≡ firstOf (pairOrder differs) → n ≡ firstOf (analysisOrder k bs (streamAt m k))
+  record-accepted low p e differs h =
+      passes (recordOrder bs) fourteen tt refl (clear-of-accepted bs (numbers p) e .0) (h ∙ ap (λ (b : Bool). firstOf (pairOrder b)) differs)
+      ∙ not-above (recordOrder bs ++ fourteen) low
 
 -- what each call gives, from the number n that its code found, the verdict of n, and the meter that it left
 module _ (m : Meter) (k : ℕ) (bs : List ℕ) {n : ℕ} {v : Verdict} {after : Meter} (verdict : v ≡ verdictOf n) (is : n ≡ firstOf (analysisOrder k bs (streamAt m k))) where

@@ -79,19 +79,24 @@ pub fn fresh() -> Meter
     }
 }
 
-// 14, 0 where it does not hold.
-fn pair_number(earlier: InForce, combustion: u8, metering: u8) -> u8
-    ensures { λ r. ⌜ r ≡ firstOf (pairOrder (pairDiffers earlier combustion metering)) ⌝ }
+// 14.
+fn pair_differs(earlier: InForce, combustion: u8, metering: u8) -> bool
+    ensures { λ r. ⌜ r ≡ pairDiffers earlier combustion metering ⌝ }
 {
     match earlier {
-        InForce::Nothing => 0,
-        InForce::Known(gas) => {
-            if (gas.combustion != combustion) | (gas.metering != metering) {
-                return 14;
-            }
-            0
-        }
+        InForce::Nothing => false,
+        InForce::Known(gas) => (gas.combustion != combustion) | (gas.metering != metering),
     }
+}
+
+// 14 where it holds, 0 where not.
+fn pair_number(fourteen: bool) -> u8
+    ensures { λ r. ⌜ r ≡ firstOf (pairOrder fourteen) ⌝ }
+{
+    if fourteen {
+        return 14;
+    }
+    0
 }
 
 // The record's properties come into force.
@@ -109,7 +114,7 @@ pub fn analysis(mut meter: Meter, stream: usize, bytes: &[u8]) -> Changed
                 let earlier = before.analysis;
                 let combustion = bytes[5];
                 let metering = bytes[6];
-                number = pair_number(earlier, combustion, metering);
+                number = pair_number(pair_differs(earlier, combustion, metering));
                 if number == 0 {
                     let volume = before.volume;
                     let energy = before.energy;
@@ -201,19 +206,19 @@ pub fn metering(mut meter: Meter, stream: usize, volume: u64) -> Changed
     requires { ⌜ Sound meter ⌝ }
     ensures { λ r. ⌜ Gives (meteringOf meter stream volume) meter (r .verdict) (r .meter) ⌝ }
 {
-    let mut number: u8 = 13;
+    let mut refusal: u8 = 13;
     if stream <= 15 {
         let before = meter.streams[stream];
         let analysis = before.analysis;
         let room = 999999999999 - before.volume;
-        number = volume_number(10000000 < volume, no_analysis(analysis), room < volume);
-        if number == 0 {
+        refusal = volume_number(10000000 < volume, no_analysis(analysis), room < volume);
+        if refusal == 0 {
             meter.streams[stream] = metered(before, volume);
         }
     }
     Changed {
         meter,
-        verdict: records::verdict_of(number),
+        verdict: records::verdict_of(refusal),
     }
 }
 

@@ -65,6 +65,9 @@ shared-slice-read-combustion c = omega (arith, long (c .before .before .before) 
 shared-slice-read-metering : tie.Need-shared-slice-read-metering
 shared-slice-read-metering c = omega (arith, long (c .before .before .before .before) .long)
 
+pair-differs-requires : tie.Need-pair-differs-requires
+pair-differs-requires c κs = search needs
+
 pair-number-requires : tie.Need-pair-number-requires
 pair-number-requires c κs = search needs
 
@@ -89,11 +92,11 @@ returns c =
     (⊎-elim
     (λ x.
     let e = is-accepted s (x .1 .ensures) (x .3 .given .1) in
-    analysis-accepted (m s) (k s) (bs s) v (x .12 ∙ record-accepted (m s) (k s) (bs s) (x .0 .taken) _ e (x .8 .ensures)) (x .12 ∙ x .9 .taken) _ e (x .11))
+    analysis-accepted (m s) (k s) (bs s) v (x .13 ∙ record-accepted (m s) (k s) (bs s) (x .0 .taken) _ e (x .8 .ensures) (x .9 .ensures)) (omega (arith, x .13, x .10 .taken)) _ e (x .12))
     (⊎-elim
     (λ x.
     let e = is-accepted s (x .1 .ensures) (x .3 .given .1) in
-    analysis-refused (m s) (k s) (bs s) v (x .11 ∙ record-accepted (m s) (k s) (bs s) (x .0 .taken) _ e (x .8 .ensures)) (λ z. x .9 .left (sym (x .11) ∙ z)) (x .10))
+    analysis-refused (m s) (k s) (bs s) v (x .12 ∙ record-accepted (m s) (k s) (bs s) (x .0 .taken) _ e (x .8 .ensures) (x .9 .ensures)) (λ z. omega (arith, x .12, x .10 .left)) (x .11))
     (λ x.
     analysis-refused (m s) (k s) (bs s) v (x .2 ∙ analysis-above (k s) (bs s) (streamAt (m s) (k s)) (x .0 .left)) (λ z. omega (arith, x .2)) (x .1))))
     (j .if1 .came)
@@ -109,6 +112,7 @@ analysis-spec =
     element-copy-out-before
     shared-slice-read-combustion
     shared-slice-read-metering
+    pair-differs-requires
     pair-number-requires
     mul-t27
     element-set-from-meter

@@ -45,7 +45,7 @@ element-copy-out-before : tie.Need-element-copy-out-before
 element-copy-out-before c = search needs
 
 sub-room : tie.Need-sub-room
-sub-room c = let d = c .before .before in sound (d .before) (d .if1 .taken) .volume
+sub-room c = let d = c .before .before in omega (arith, sound (d .before) (d .if1 .taken) .volume)
 
 no-analysis-requires : tie.Need-no-analysis-requires
 no-analysis-requires c κs = search needs
@@ -58,7 +58,7 @@ metered-requires c κs =
     let d = c .before in
     let b = d .before .before .before .before in
     let s = b .before in
-    let free = clear-metering (k s) (w s) (stream s) (sym (found s (b .if1 .taken) (d .before .no-analysis .ensures) (d .volume-number .ensures)) ∙ c .if2 .taken) in
+    let free = clear-metering (k s) (w s) (stream s) (omega (arith, found s (b .if1 .taken) (d .before .no-analysis .ensures) (d .volume-number .ensures))) in
     (sound s (b .if1 .taken), (free .volume, free .total))
 
 mul-t18 : tie.Need-mul-t18
@@ -76,9 +76,9 @@ returns c =
     let s = j .before in
     let v = c .verdict-of .ensures in
     ⊎-elim
-    (λ x. metering-accepted (m s) (k s) (w s) v (x .8 ∙ found s (x .0 .taken) (x .3 .ensures) (x .4 .ensures)) (x .8 ∙ x .5 .taken) (x .6 .ensures) (x .7))
+    (λ x. metering-accepted (m s) (k s) (w s) v (x .8 ∙ found s (x .0 .taken) (x .3 .ensures) (x .4 .ensures)) (omega arith) (x .6 .ensures) (x .7))
     (⊎-elim
-    (λ x. metering-refused (m s) (k s) (w s) v (x .7 ∙ found s (x .0 .taken) (x .3 .ensures) (x .4 .ensures)) (λ z. x .5 .left (sym (x .7) ∙ z)) (x .6))
+    (λ x. metering-refused (m s) (k s) (w s) v (x .7 ∙ found s (x .0 .taken) (x .3 .ensures) (x .4 .ensures)) (λ z. omega arith) (x .6))
     (λ x. metering-refused (m s) (k s) (w s) v (x .2 ∙ metering-above (k s) (w s) (stream s) (x .0 .left)) (λ z. omega (arith, x .2)) (x .1)))
     (j .if1 .came)
 
