@@ -1,9 +1,10 @@
 #!/usr/bin/env python3
-"""The six properties by document 01, written a second time: whole numbers of Python, and the component table from the second
-transcription of source document 002, tools/reading/.
+"""The six properties and the meter by document 01, written a second time: whole numbers of Python, and the component table from the
+second transcription of source document 002, tools/reading/.
 
 usage: tools/reference.py rows       the rows of `gases` in crates/properties/specs/Cases.antt
        tools/reference.py output     what crates/try_properties prints: its file `stdout`
+       tools/reference.py meter      what crates/try_meter prints: its file `stdout`
 """
 import csv
 import os
@@ -126,11 +127,98 @@ def output():
         yield f"{name} {scale} {bound}"
 
 
+class Stream:
+    def __init__(self):
+        self.pair, self.Hs, self.volume, self.energy = None, None, 0, 0
+
+
+class Meter:
+    """Sixteen streams. Each call answers a number, 0 where it is accepted, or what it reads."""
+
+    def __init__(self):
+        self.streams = [Stream() for _ in range(16)]
+
+    def analysis(self, k, record):
+        """A record is a pair and a gas, or the number of its refusal."""
+        if k > 15:
+            return 13
+        if isinstance(record, int):
+            return record
+        stream, (pair, gas) = self.streams[k], record
+        if stream.pair not in (None, pair):
+            return 14
+        stream.pair, stream.Hs = pair, properties(*pair, gas)[1]
+        return 0
+
+    def metering(self, k, volume):
+        if k > 15:
+            return 13
+        stream = self.streams[k]
+        if volume > 10000000:
+            return 15
+        if stream.Hs is None:
+            return 16
+        if stream.volume + volume > 999999999999:
+            return 17
+        stream.volume += volume
+        stream.energy += volume * stream.Hs
+        return 0
+
+    def totals(self, k):
+        if k > 15:
+            return 13
+        stream = self.streams[k]
+        return f"{stream.volume} dm3, {stream.energy // 10**9} MJ {stream.energy % 10**9} mJ"
+
+    def mean(self, k):
+        if k > 15:
+            return 13
+        stream = self.streams[k]
+        return f"{near(stream.energy, stream.volume)} J/m3" if stream.volume else 18
+
+
+K2 = (" K2", ((15, 15), methane_and()))
+AT_0 = (" 0/0", ((0, 0), methane_and()))
+NITROGEN = (" nitrogen 300,000", ((15, 15), methane_and((52, 300000))))
+# lists of calls, each from a fresh meter: a volume is metered, a pair is a title and a record, `read` is both readings, and `fill`
+# meters 99,999 times 10,000,000 dm³ and prints nothing
+CALLS = [
+    [(0, 1000), (0, K2), (0, 1000), (0, "read")],
+    [(16, (" no record", 1)), (16, 10000001), (2**64 - 1, "read")],
+    [(15, 2**64 - 1), (15, 10000000), (15, K2), (15, 10000001), (15, 0), (15, "read"), (15, 10000000), (15, "read"), (14, "read")],
+    [(3, K2), (3, AT_0), (3, (" 0/0, methane 999,899", 9)), (4, AT_0), (3, 27), (4, 27), (3, "read"), (4, "read")],
+    [(7, K2), (7, 26), (7, "read"), (7, NITROGEN), (7, 1), (7, "read")],
+    [(9, K2), (9, "fill"), (9, "read"), (9, 10000000), (9, 9999999), (9, 1), (9, 0), (9, "read")],
+]
+
+
+def said(answer):
+    return answer if isinstance(answer, str) else f"refused {answer}" if answer else "accepted"
+
+
+def meter():
+    for calls in CALLS:
+        m = Meter()
+        for k, what in calls:
+            if what == "read":
+                yield f"totals {k}: {said(m.totals(k))}"
+                yield f"mean {k}: {said(m.mean(k))}"
+            elif what == "fill":
+                for _ in range(99999):
+                    m.metering(k, 10000000)
+            elif isinstance(what, int):
+                yield f"metering {k} {what}: {said(m.metering(k, what))}"
+            else:
+                yield f"analysis {k}{what[0]}: {said(m.analysis(k, what[1]))}"
+
+
 if __name__ == "__main__":
     asked = sys.argv[1:]
     if asked == ["rows"]:
         print("\n".join(rows()))
     elif asked == ["output"]:
         print("\n".join(output()))
+    elif asked == ["meter"]:
+        print("\n".join(meter()))
     else:
         sys.exit(__doc__)

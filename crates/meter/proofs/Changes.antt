@@ -2,7 +2,7 @@
 use mathlib.Core.Path.{_≡_, refl, sym, ap, subst, _∙_}
 use mathlib.Core.Bool.{Bool}
 use mathlib.Core.List.{List, _++_}
-use Prim.Native.Nat.{ℕ, _≤_, _<_}
+use Prim.Native.Nat.{ℕ, _≤_}
 use Rattle.records.specs.declared.Verdict.{Verdict}
 use Rattle.records.specs.Order.{Order, firstOf, refused, accepted}
 use Rattle.records.specs.Format.{combustionIn, meteringIn, linesIn, fractionsIn, contentsIn}

@@ -1,21 +1,23 @@
 -- What holds of every meter holds of a meter as made, and every call keeps it.
-use mathlib.Core.Path.{_≡_, refl, _∙_}
+use mathlib.Core.Path.{_≡_, refl, sym, subst, _∙_}
 use mathlib.Core.List.{List}
-use Prim.Native.Nat.{ℕ, zero, suc, _*_, _≤_, _<_}
+use Prim.Native.Nat.{ℕ, zero, suc, _≤_, _<_}
 use native.Mathlib.Nat.{mul-le-mul-left}
 use native.Mathlib.Omega.{arith}
 use native.Mathlib.Decide.{ℕ-discrete}
 use lib.ListN.{length, length-set, getD-replicate}
 use lib.Seq.{getD-set-same, getD-set-other}
+use Rattle.records.specs.declared.Verdict.{Verdict}
 use Rattle.records.specs.Order.{firstOf, otherwise, decided}
 use Rattle.records.specs.Format.{contentsIn}
 use Rattle.records.specs.Conditions.{recordOrder}
+use Rattle.records.specs.Answers.{Gives}
 use Rattle.records.proofs.Accepted.{acceptable}
 use Rattle.properties.specs.Quantities.{calorificBound}
 use Rattle.properties.proofs.Gas.{bounded}
 use Rattle.meter.specs.declared.Stream.{Stream}
 use Rattle.meter.specs.declared.Meter.{Meter}
-use Rattle.meter.specs.State.{SoundStream, Sound, freshStream, streamAt, withStream, hsOf, perMJ}
+use Rattle.meter.specs.State.{SoundStream, Sound, freshStream, streamAt, withStream, perMJ}
 use Rattle.meter.specs.Conditions.{analysisOrder, meteringOrder}
 use Rattle.meter.specs.Calls.{analysed, metered}
 use Rattle.meter.specs.Kept.{FreshIsSound, AnalysisKeeps, MeteringKeeps}
@@ -36,16 +38,20 @@ with-sound m k s b h sound = record { count = length-set (m .streams) k s ∙ h 
     at j c (no e) = rw getD-set-other (h .each j c)
 
 -- a call that replaces one stream where its number is 0
-kept : (n : ℕ) (m : Meter) (k : ℕ) (s : Stream) → Sound m → (n ≡ 0 → (k < 16) × SoundStream s) → Sound (otherwise m (decided n (withStream m k s)))
-kept zero m k s h new = let a = new refl in with-sound m k s (a .0) h (a .1)
-kept (suc n) m k s h new = h
+otherwise-sound : (n : ℕ) (m : Meter) (k : ℕ) (s : Stream) → Sound m → (n ≡ 0 → (k < 16) × SoundStream s) → Sound (otherwise m (decided n (withStream m k s)))
+otherwise-sound zero m k s h new = let a = new refl in with-sound m k s (a .0) h (a .1)
+otherwise-sound (suc n) m k s h new = h
 
-pub hs-bounded : (bs : List ℕ) → firstOf (recordOrder bs) ≡ 0 → Rattle.properties.specs.Chain.Hs (contentsIn bs) ≤ calorificBound
+kept : (n : ℕ) (m : Meter) (k : ℕ) (s : Stream) (v : Verdict) (after : Meter) → Gives (decided n (withStream m k s)) m v after → Sound m →
+    (n ≡ 0 → (k < 16) × SoundStream s) → Sound after
+kept n m k s v after gives h new = subst Sound (sym (gives .stands)) (otherwise-sound n m k s h new)
+
+hs-bounded : (bs : List ℕ) → firstOf (recordOrder bs) ≡ 0 → Rattle.properties.specs.Chain.Hs (contentsIn bs) ≤ calorificBound
 hs-bounded bs clear = bounded (contentsIn bs) (acceptable bs clear) .Hs
 
 pub analysis-keeps : AnalysisKeeps
-analysis-keeps m k bs h =
-    kept (firstOf (analysisOrder k bs s)) m k (analysed s bs) h
+analysis-keeps m k bs v after gives h =
+    kept (firstOf (analysisOrder k bs s)) m k (analysed s bs) v after gives h
     (λ z.
     let c = clear-analysis k bs s z in
     let old = h .each k (c .stream) in
@@ -55,12 +61,12 @@ analysis-keeps m k bs h =
     s = streamAt m k
 
 pub metering-keeps : MeteringKeeps
-metering-keeps m k v h =
-    kept (firstOf (meteringOrder k v s)) m k (metered s v) h
+metering-keeps m k w v after gives h =
+    kept (firstOf (meteringOrder k w s)) m k (metered s w) v after gives h
     (λ z.
-    let c = clear-metering k v s z in
+    let c = clear-metering k w s z in
     let old = h .each k (c .stream) in
-    (c .stream, record { Hs = old .Hs; volume = c .total; energy = sound-booked perMJ (omega arith) calorificBound (s .volume) v _ (s .energy) (old .energy) (mul-le-mul-left v (old .Hs)) }))
+    (c .stream, record { Hs = old .Hs; volume = c .total; energy = sound-booked perMJ (omega arith) calorificBound (s .volume) w _ (s .energy) (old .energy) (mul-le-mul-left w (old .Hs)) }))
   where
     s : Stream
     s = streamAt m k

@@ -1,6 +1,5 @@
 -- The mean of a sound stream: no more than the ceiling of a calorific value, and within reach of the division of two words.
-use Prim.Native.Nat.{ℕ, _*_, _≤_, _<_}
-use native.Mathlib.Nat.{mul-comm}
+use Prim.Native.Nat.{_≤_, _<_}
 use native.Mathlib.Omega.{arith}
 use Rattle.rounding.specs.Wide.{Wide}
 use Rattle.rounding.proofs.NearLaws.{near-half, at-most}

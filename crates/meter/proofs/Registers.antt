@@ -1,7 +1,7 @@
 -- A register, u units of whose rest make one whole: what is booked is added to its amount, and its rest stays below one whole.
 use mathlib.Core.Path.{_≡_, sym, ap, _∙_}
 use Prim.Native.Nat.{ℕ, _+_, _*_, _/_, _%_, _≤_, _<_}
-use native.Mathlib.Nat.{add-comm, add-assoc, add-mul-div-right, add-mul-mod-self-right, div-add-mod', mod-lt}
+use native.Mathlib.Nat.{add-comm, add-mul-div-right, add-mul-mod-self-right, div-add-mod', mod-lt}
 use native.Mathlib.Omega.{arith}
 use lib.Arith.{digits-div, digits-mod}
 use Rattle.meter.specs.declared.Register.{Register}

@@ -1,6 +1,5 @@
 -- The meter of document 01 as made, and what holds of every meter.
 use mathlib.Core.Path.{_≡_}
-use mathlib.Core.List.{List}
 use Prim.Native.Nat.{ℕ, _+_, _*_, _≤_, _<_}
 use lib.ListN.{length, getD, set, replicate}
 use Rattle.properties.specs.Quantities.{calorificBound}

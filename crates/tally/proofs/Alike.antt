@@ -2,34 +2,31 @@
 -- alike, and leaves them alike.
 use mathlib.Core.Path.{_≡_, refl, sym, ap, subst, _∙_}
 use mathlib.Core.Bool.{true≢false}
-use mathlib.Core.List.{List, [], _∷_, _++_}
+use mathlib.Core.List.{List}
 use mathlib.Core.Option.{Option, none, some}
-use Prim.Native.Nat.{ℕ, _+_, _*_, _/_, _%_, _<_}
+use Prim.Native.Nat.{ℕ, _+_, _*_, _<_}
 use native.Mathlib.Nat.{mod-lt}
 use native.Mathlib.Omega.{arith}
 use Rattle.rounding.specs.Near.{near}
 use Rattle.rounding.specs.Fraction.{Fraction, whole, plus, times, Within}
 use Rattle.rounding.proofs.FractionLaws.{within-plus, within-times}
-use Rattle.records.specs.Order.{firstOf, accepted}
+use Rattle.records.specs.Order.{firstOf}
 use Rattle.records.specs.Format.{combustionIn, meteringIn, contentsIn}
-use Rattle.records.specs.Conditions.{recordOrder}
 use Rattle.records.proofs.Accepted.{acceptable}
-use Rattle.properties.specs.Chain.{Six, Hs, sixOf, propertiesOf}
+use Rattle.properties.specs.Chain.{Six, Hs}
 use Rattle.properties.specs.Unrounded as unrounded
 use Rattle.properties.specs.Answers.{numbers}
 use Rattle.properties.proofs.Gas.{distances}
 use Rattle.properties.proofs.Outcomes.{accepted-properties, clear-of-accepted}
 use Rattle.meter.specs.declared.InForce.{InForce}
-use Rattle.meter.specs.declared.InForce.the-variants.{Nothing, Known}
-use Rattle.meter.specs.declared.Gas.{Gas}
 use Rattle.meter.specs.declared.Register.{Register}
 use Rattle.meter.specs.declared.Stream.{Stream}
 use Rattle.meter.specs.State.{hsOf, amountIn, perMJ}
 use Rattle.meter.specs.Conditions.{pairDiffers, noAnalysis, analysisOrder, meteringOrder, meanOrder}
-use Rattle.meter.specs.Calls.{gasOf, analysed, booked, metered, meanIn, totalsIn}
+use Rattle.meter.specs.Calls.{gasOf, analysed, booked, metered, meanIn}
 use Rattle.meter.proofs.Registers.{amount-booked, whole-of, rest-of}
 use Rattle.meter.proofs.Orders.{clear-analysis, clear-metering}
-use Rattle.tally.specs.Tally.{analysis, metering, totals, mean, Given, totalsAre, meanIs, Account, grown, Kept, otherPair, noRecord, orderOf, meteredBy, keptAfter, givenBy}
+use Rattle.tally.specs.Tally.{analysis, metering, totals, mean, totalsAre, meanIs, Account, grown, Kept, otherPair, noRecord, orderOf, meteredBy, keptAfter, givenBy}
 use Rattle.tally.specs.Demand.{SameInForce, nothing, known}
 
 -- the pair of a record in force

@@ -7,7 +7,7 @@ use native.Mathlib.Omega.{arith}
 use borrow.Author.Tests.{le-ltb, ne-eqb, eq-eqb}
 use lib.ListN.{getD, drop, replicate}
 use Rattle.rounding.specs.Near.{near}
-use Rattle.rounding.specs.Fraction.{Fraction, whole, half, dividedBy, _over_, Within}
+use Rattle.rounding.specs.Fraction.{Fraction, whole, dividedBy, Within}
 use Rattle.rounding.proofs.NearLaws.{near-half}
 use Rattle.records.specs.Order.{Order, firstOf, refused, accepted, decided}
 use Rattle.records.specs.Format.{combustionIn, meteringIn, contentsIn}
@@ -16,11 +16,11 @@ use Rattle.records.specs.Calls.{readingOf}
 use Rattle.records.proofs.OrderLaws.{clear-first, clear-second, decided-accepted}
 use Rattle.properties.proofs.Gas.{every-accepted-record}
 use Rattle.meter.specs.declared.Meter.{Meter}
-use Rattle.meter.specs.State.{freshStream, freshMeter, streamAt, perMJ}
+use Rattle.meter.specs.State.{freshStream, freshMeter}
 use Rattle.meter.proofs.Kept.{fresh-is-sound}
-use Rattle.tally.specs.Tally.{analysis, Call, Given, done, Answer, Kept, freshKept, Tally, freshTally, keptAt, above15, otherPair, orderOf, numberFor, answerTo, tallyAfter, answersTo, tallied}
+use Rattle.tally.specs.Tally.{analysis, Call, done, Answer, Kept, freshKept, Tally, freshTally, keptAt, above15, otherPair, orderOf, tallyAfter, answersTo, tallied}
 use Rattle.tally.specs.Run.{Run, ended, after, by-totals, by-mean}
-use Rattle.tally.specs.Demand.{acceptedVolume, AcceptedIn, here, later, Analysed, nothing, Near, OfStream, Demand3, Claim}
+use Rattle.tally.specs.Demand.{acceptedVolume, AcceptedIn, here, later, Analysed, nothing, Claim}
 use Rattle.tally.proofs.Alike.{Alike}
 use Rattle.tally.proofs.Steps.{Linked, asked, step}
 use Rattle.tally.proofs.Volumes.{volume-sum}

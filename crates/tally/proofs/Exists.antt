@@ -1,6 +1,6 @@
 -- The claim speaks of something: there is a fresh meter, and every list of calls has a run from every meter.
 use mathlib.Core.Path.{_≡_, refl}
-use mathlib.Core.List.{List, [], _∷_}
+use mathlib.Core.List.{[], _∷_}
 use Prim.Native.Nat.{ℕ}
 use Rattle.records.specs.Order.{Outcome, refused, accepted, firstOf, decided, otherwise}
 use Rattle.records.specs.Answers.{verdictOf}
@@ -13,11 +13,11 @@ use Rattle.meter.specs.declared.MeanAnswer.{MeanAnswer}
 use Rattle.meter.specs.declared.MeanAnswer.the-variants as mean-answer
 use Rattle.meter.specs.State.{freshMeter, streamAt, withStream}
 use Rattle.meter.specs.Conditions.{analysisOrder, meteringOrder}
-use Rattle.meter.specs.Calls.{analysed, metered, analysisOf, meteringOf, totalsOf, meanOf}
+use Rattle.meter.specs.Calls.{analysed, metered, totalsOf, meanOf}
 use Rattle.meter.specs.Answers.{totalsMeaning, meanMeaning}
 use Rattle.tally.specs.Tally.{Ask, analysis, metering, totals, mean, Call, Answer}
-use Rattle.tally.specs.Run.{Step, by-analysis, by-metering, by-totals, by-mean, Run, ended, after}
-use Rattle.tally.specs.Demand.{HasRun, EveryListHasRun, HasFresh}
+use Rattle.tally.specs.Run.{Step, by-analysis, by-metering, by-totals, by-mean, ended, after}
+use Rattle.tally.specs.Demand.{EveryListHasRun, HasFresh}
 
 pub has-fresh : HasFresh
 has-fresh = record { meter = freshMeter; returns = λ p. refl }

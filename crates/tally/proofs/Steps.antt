@@ -1,6 +1,5 @@
 -- One call on a meter and on the tally beside it: the answers are the same, and what they leave is alike.
 use mathlib.Core.Path.{_≡_, refl, sym, ap, subst, _∙_}
-use mathlib.Core.List.{List}
 use Prim.Native.Nat.{ℕ, zero, suc, _<_}
 use native.Mathlib.Decide.{ℕ-discrete}
 use native.Mathlib.Omega.{arith}
@@ -22,7 +21,7 @@ use Rattle.meter.specs.Answers.{totalsMeaning, meanMeaning}
 use Rattle.meter.proofs.Orders.{clear-analysis, clear-metering}
 use Rattle.meter.proofs.Kept.{analysis-keeps, metering-keeps}
 use Rattle.tally.specs.Tally.{Ask, analysis, metering, totals, mean, Call, Given, done, totalsAre, meanIs, Answer, Kept, freshKept, Tally, keptAt, keptAfter, givenBy, numberFor, answerTo, tallyAfter}
-use Rattle.tally.specs.Run.{changeAnswer, totalsAnswer, meanAnswer, Step, by-analysis, by-metering, by-totals, by-mean}
+use Rattle.tally.specs.Run.{changeAnswer, Step, by-analysis, by-metering, by-totals, by-mean}
 use Rattle.tally.specs.Demand.{Asked}
 use Rattle.tally.proofs.Alike.{Alike, analysis-order, metering-order, mean-order, analysis-alike, metering-alike, totals-alike, mean-alike}
 
@@ -67,17 +66,16 @@ module _ (m : Meter) (t : Tally) (h : Linked m t) where
   changes : (k : ℕ) (ask : Ask) (s : Stream) (n : ℕ) → n ≡ numberFor t (record { stream = k; ask = ask }) →
       (n ≡ 0 → (k < 16) × Alike s (keptAfter ask (keptAt t k))) →
       done ≡ givenBy ask (keptAt t k) →
-      Sound (otherwise m (decided n (withStream m k s))) →
-      (v : Verdict) (after : Meter) → Gives (decided n (withStream m k s)) m v after →
+      (v : Verdict) (after : Meter) → Gives (decided n (withStream m k s)) m v after → Sound after →
       Next t (record { stream = k; ask = ask }) (changeAnswer v) after
-  changes k ask s n is new gives-done sound v after gives =
+  changes k ask s n is new gives-done v after gives sound =
       record {
         answer =
             meaning-of v after done
             ∙ ap (mapped (λ (x : Meter). done)) (gives .means)
             ∙ mapped-decided (λ (x : Meter). done) n (withStream m k s)
             ∙ rw (is, gives-done);
-        linked = rw (gives .stands, sym is) (linked-with n k s (keptAfter ask (keptAt t k)) new sound);
+        linked = rw (gives .stands, sym is) (linked-with n k s (keptAfter ask (keptAt t k)) new (subst Sound (gives .stands) sound));
       }
 
   -- a reading
@@ -100,12 +98,12 @@ module _ (m : Meter) (t : Tally) (h : Linked m t) where
       let l = keptAt t k in
       let bs = now b in
       changes k (analysis bs) (analysed s bs) (firstOf (analysisOrder k bs s)) (ap firstOf (analysis-order s l (h .each k) k bs))
-      (λ z. (clear-analysis k bs s z .stream, analysis-alike s l (h .each k) k bs z)) refl (analysis-keeps m k bs (h .sound)) (r .verdict) (r .meter) (got tt)
+      (λ z. (clear-analysis k bs s z .stream, analysis-alike s l (h .each k) k bs z)) refl (r .verdict) (r .meter) (got tt) (analysis-keeps m k bs (r .verdict) (r .meter) (got tt) (h .sound))
   step (by-metering k v r got) =
       let s = streamAt m k in
       let l = keptAt t k in
       changes k (metering v) (metered s v) (firstOf (meteringOrder k v s)) (ap firstOf (metering-order s l (h .each k) k v))
-      (λ z. (clear-metering k v s z .stream, metering-alike s l (h .each k) k v z)) refl (metering-keeps m k v (h .sound)) (r .verdict) (r .meter) (got (h .sound))
+      (λ z. (clear-metering k v s z .stream, metering-alike s l (h .each k) k v z)) refl (r .verdict) (r .meter) (got (h .sound)) (metering-keeps m k v (r .verdict) (r .meter) (got (h .sound)) (h .sound))
   step (by-totals k r got) =
       reads (λ (x : StreamTotals). totalsAre (x .volume) (x .energy .whole) (x .energy .rest)) k totals (totalsMeaning r) (firstOf (totalsOrder k))
       (totalsIn (streamAt m k)) refl (got tt) (totals-alike (streamAt m k) (keptAt t k) (h .each k)) refl

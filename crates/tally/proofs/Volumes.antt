@@ -1,5 +1,5 @@
 -- The tally's volume of a stream is the sum of the volumes that were accepted for it.
-use mathlib.Core.Path.{_≡_, refl, sym, ap, _∙_}
+use mathlib.Core.Path.{_≡_, refl, sym, _∙_}
 use mathlib.Core.Bool.{Bool, true, false, cond, true≢false}
 use mathlib.Core.List.{List, [], _∷_}
 use mathlib.Core.Option.{Option, none, some}
@@ -12,7 +12,7 @@ use lib.ListN.{length, set, length-set}
 use lib.Seq.{getD-set-same, getD-set-other}
 use Rattle.records.specs.Order.{firstOf, refused, accepted, decided, otherwise}
 use Rattle.records.proofs.OrderLaws.{unmet}
-use Rattle.tally.specs.Tally.{Ask, analysis, metering, totals, mean, Call, Answer, Kept, freshKept, Tally, keptAt, noRecord, orderOf, meteredBy, keptAfter, givenBy, numberFor, answerTo, tallyAfter, answersTo, tallied}
+use Rattle.tally.specs.Tally.{Ask, analysis, metering, totals, mean, Call, Kept, freshKept, Tally, keptAt, noRecord, orderOf, meteredBy, keptAfter, givenBy, numberFor, tallyAfter, answersTo, tallied}
 use Rattle.tally.specs.Demand.{addedBy, acceptedVolume}
 
 -- a refused call adds nothing

@@ -22,7 +22,7 @@ use Rattle.meter.specs.declared.Meter.{Meter}
 use Rattle.meter.specs.declared.TotalsAnswer.{TotalsAnswer}
 use Rattle.meter.specs.declared.MeanAnswer.{MeanAnswer}
 use Rattle.meter.specs.State.{streamAt}
-use Rattle.tally.specs.Tally.{Ask, analysis, metering, totals, mean, Call, Given, done, totalsAre, meanIs, Answer, Account, Kept, keptAt, freshTally, answersTo, tallied}
+use Rattle.tally.specs.Tally.{Ask, analysis, metering, totals, mean, Call, done, totalsAre, meanIs, Answer, Account, Kept, keptAt, freshTally, answersTo, tallied}
 use Rattle.tally.specs.Run.{AnalysisAsks, MeteringAsks, TotalsAsks, MeanAsks, FreshReturns, TotalsReturns, MeanReturns, totalsAnswer, meanAnswer, Run}
 
 -- the volume that a call added: that of an accepted metering call

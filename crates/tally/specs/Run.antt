@@ -18,7 +18,7 @@ use Rattle.meter.proofs.analysis.Reads as analysis-reads
 use Rattle.meter.proofs.metering.Reads as metering-reads
 use Rattle.meter.proofs.totals.Reads as totals-reads
 use Rattle.meter.proofs.mean.Reads as mean-reads
-use Rattle.tally.specs.Tally.{Ask, analysis, metering, totals, mean, Call, Given, done, totalsAre, meanIs, Answer}
+use Rattle.tally.specs.Tally.{analysis, metering, totals, mean, Call, done, totalsAre, meanIs, Answer}
 
 -- what the contract of each function requires
 abbrev pub AnalysisAsks : Lfts 1 → Meter → ℕ → RefT (List ℕ) → Type 0

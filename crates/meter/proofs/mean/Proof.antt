@@ -1,5 +1,5 @@
 -- 13, 18, or the energy divided by the volume.
-use mathlib.Core.Path.{_≡_, sym, subst}
+use mathlib.Core.Path.{sym, subst}
 use Prim.Native.Nat.{ℕ, _≤_, _<_}
 use native.Mathlib.Omega.{arith}
 use borrow.Author.Tests.{lt-ltb, le-ltb, eq-eqb, ne-eqb}
@@ -7,7 +7,6 @@ use borrow.Author.Needs.{needs}
 use Rattle.properties.specs.Quantities.{calorificBound}
 use Rattle.meter.specs.declared.Stream.{Stream}
 use Rattle.meter.specs.State.{SoundStream, streamAt}
-use Rattle.meter.specs.Calls.{meanIn}
 use Rattle.meter.proofs.Means.{mean-bounded, mean-wide}
 use Rattle.meter.proofs.mean.Statement.{statement}
 use Rattle.meter.proofs.mean.Tie as tie
