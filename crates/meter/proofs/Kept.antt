@@ -1,10 +1,11 @@
 -- What holds of every meter holds of a meter as made, and every call keeps it.
 use mathlib.Core.Path.{_≡_, refl, sym, subst, _∙_}
 use mathlib.Core.List.{List}
-use Prim.Native.Nat.{ℕ, zero, suc, _≤_, _<_}
+use Prim.Native.Nat.{ℕ, zero, suc, _+_, _≤_, _<_}
 use native.Mathlib.Nat.{mul-le-mul-left}
 use native.Mathlib.Omega.{arith}
 use native.Mathlib.Decide.{ℕ-discrete}
+use borrow.Author.Tests.{le-ltb}
 use lib.ListN.{length, length-set, getD-replicate}
 use lib.Seq.{getD-set-same, getD-set-other}
 use Rattle.records.specs.declared.Verdict.{Verdict}
@@ -20,7 +21,7 @@ use Rattle.meter.specs.declared.Meter.{Meter}
 use Rattle.meter.specs.State.{SoundStream, Sound, freshStream, streamAt, withStream, perMJ}
 use Rattle.meter.specs.Conditions.{analysisOrder, meteringOrder}
 use Rattle.meter.specs.Calls.{analysed, metered}
-use Rattle.meter.specs.Kept.{FreshIsSound, AnalysisKeeps, MeteringKeeps}
+use Rattle.meter.specs.Kept.{FreshIsSound, AnalysisKeeps, MeteringKeeps, ZeroIsAccepted}
 use Rattle.meter.proofs.Orders.{clear-analysis, clear-metering}
 use Rattle.meter.proofs.Registers.{sound-booked}
 
@@ -70,3 +71,7 @@ metering-keeps m k w v after gives h =
   where
     s : Stream
     s = streamAt m k
+
+pub zero-is-accepted : ZeroIsAccepted
+zero-is-accepted m k h b some =
+    rw (le-ltb 15 k (omega arith), some, le-ltb 999999999999 (streamAt m k .volume + 0) (omega (arith, h .each k b .volume)))

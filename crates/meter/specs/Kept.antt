@@ -1,11 +1,15 @@
--- What is shown of `Sound`, the one thing that a contract asks of a meter: it holds of a meter as made, and every call that may change
--- the meter keeps it. A reading leaves the meter as it was.
+-- What is shown of every meter. `Sound`, the one thing that a contract asks of a meter, holds of a meter as made, and every call that
+-- may change the meter keeps it; a reading leaves the meter as it was.
+use mathlib.Core.Path.{_≡_}
+use mathlib.Core.Bool.{false}
 use mathlib.Core.List.{List}
-use Prim.Native.Nat.{ℕ}
+use Prim.Native.Nat.{ℕ, _<_}
 use Rattle.records.specs.declared.Verdict.{Verdict}
+use Rattle.records.specs.Order.{firstOf}
 use Rattle.records.specs.Answers.{Gives}
 use Rattle.meter.specs.declared.Meter.{Meter}
-use Rattle.meter.specs.State.{Sound, freshMeter}
+use Rattle.meter.specs.State.{Sound, freshMeter, streamAt}
+use Rattle.meter.specs.Conditions.{noAnalysis, meteringOrder}
 use Rattle.meter.specs.Calls.{analysisOf, meteringOf}
 
 abbrev pub FreshIsSound : Type 0
@@ -17,3 +21,7 @@ AnalysisKeeps = (m : Meter) (k : ℕ) (bs : List ℕ) (v : Verdict) (after : Met
 
 abbrev pub MeteringKeeps : Type 0
 MeteringKeeps = (m : Meter) (k w : ℕ) (v : Verdict) (after : Meter) → Gives (meteringOf m k w) m v after → Sound m → Sound after
+
+-- volume 0 is accepted on every stream that has an analysis
+abbrev pub ZeroIsAccepted : Type 0
+ZeroIsAccepted = (m : Meter) (k : ℕ) → Sound m → k < 16 → noAnalysis (streamAt m k .analysis) ≡ false → firstOf (meteringOrder k 0 (streamAt m k)) ≡ 0

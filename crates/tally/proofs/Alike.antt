@@ -26,7 +26,7 @@ use Rattle.meter.specs.Conditions.{pairDiffers, noAnalysis, analysisOrder, mete
 use Rattle.meter.specs.Calls.{gasOf, analysed, booked, metered, meanIn}
 use Rattle.meter.proofs.Registers.{amount-booked, whole-of, rest-of}
 use Rattle.meter.proofs.Orders.{clear-analysis, clear-metering}
-use Rattle.tally.specs.Tally.{analysis, metering, totals, mean, totalsAre, meanIs, Account, grown, Kept, otherPair, noRecord, orderOf, meteredBy, keptAfter, givenBy}
+use Rattle.tally.specs.Tally.{analysis, metering, totals, mean, totalsAre, meanIs, Account, grown, StreamTally, otherPair, noRecord, orderOf, meteredBy, leftBy, givenBy}
 use Rattle.tally.specs.Demand.{SameInForce, nothing, known}
 
 -- the pair of a record in force
@@ -40,7 +40,7 @@ pub record AlikeEnergy (u v : ℕ) (e : Register) (a : Account) : Type 0 where
   pub amount : amountIn u e ≡ a .booked
   pub within : Within (whole (2 * v)) (a .booked) (a .exact)
 
-pub record Alike (s : Stream) (l : Kept) : Type 0 where
+pub record Alike (s : Stream) (l : StreamTally) : Type 0 where
   pub inForce : SameInForce (s .analysis) (l .inForce)
   pub pair : l .pair ≡ pairOf (l .inForce)
   pub volume : s .volume ≡ l .volume
@@ -67,7 +67,7 @@ same-none : {i : InForce} {o : Option (List ℕ)} → SameInForce i o → noAnal
 same-none nothing = refl
 same-none (known bs gas ec em e) = refl
 
-module _ (s : Stream) (l : Kept) (h : Alike s l) (k : ℕ) where
+module _ (s : Stream) (l : StreamTally) (h : Alike s l) (k : ℕ) where
   pub analysis-order : (bs : List ℕ) → analysisOrder k bs s ≡ orderOf k (analysis bs) l
   analysis-order bs = rw (same-pair (h .inForce) (combustionIn bs) (meteringIn bs), sym (h .pair))
 
@@ -78,7 +78,7 @@ module _ (s : Stream) (l : Kept) (h : Alike s l) (k : ℕ) where
   mean-order = rw (h .volume)
 
   -- an accepted analysis
-  pub analysis-alike : (bs : List ℕ) → firstOf (analysisOrder k bs s) ≡ 0 → Alike (analysed s bs) (keptAfter (analysis bs) l)
+  pub analysis-alike : (bs : List ℕ) → firstOf (analysisOrder k bs s) ≡ 0 → Alike (analysed s bs) (leftBy (analysis bs) l)
   analysis-alike bs z =
       record {
         inForce = known bs (gasOf bs) refl refl (accepted-properties bs (clear-analysis k bs s z .clear));
@@ -88,7 +88,7 @@ module _ (s : Stream) (l : Kept) (h : Alike s l) (k : ℕ) where
       }
 
   -- an accepted volume
-  pub metering-alike : (v : ℕ) → firstOf (meteringOrder k v s) ≡ 0 → Alike (metered s v) (keptAfter (metering v) l)
+  pub metering-alike : (v : ℕ) → firstOf (meteringOrder k v s) ≡ 0 → Alike (metered s v) (leftBy (metering v) l)
   metering-alike v z = go refl refl (h .inForce)
     where
       go : {i : InForce} {o : Option (List ℕ)} → s .analysis ≡ i → l .inForce ≡ o → SameInForce i o → Alike (metered s v) (meteredBy o v l)
@@ -110,7 +110,7 @@ module _ (s : Stream) (l : Kept) (h : Alike s l) (k : ℕ) where
           }
 
 -- the same readings
-module _ (s : Stream) (l : Kept) (h : Alike s l) where
+module _ (s : Stream) (l : StreamTally) (h : Alike s l) where
   pub totals-alike : totalsAre (s .volume) (s .energy .whole) (s .energy .rest) ≡ givenBy totals l
   totals-alike = cc (h .volume, whole-of perMJ (s .energy) (h .energy .rest), rest-of perMJ (s .energy) (h .energy .rest), h .energy .amount)
 

@@ -18,9 +18,9 @@ use Rattle.properties.proofs.Gas.{every-accepted-record}
 use Rattle.meter.specs.declared.Meter.{Meter}
 use Rattle.meter.specs.State.{freshStream, freshMeter}
 use Rattle.meter.proofs.Kept.{fresh-is-sound}
-use Rattle.tally.specs.Tally.{analysis, Call, done, Answer, Kept, freshKept, Tally, freshTally, keptAt, above15, otherPair, orderOf, tallyAfter, answersTo, tallied}
+use Rattle.tally.specs.Tally.{analysis, Call, done, Answer, StreamTally, freshStreamTally, Tally, freshTally, tallyAt, above15, otherPair, orderOf, tallyAfter, answersTo, tallied}
 use Rattle.tally.specs.Run.{Run, ended, after, by-totals, by-mean}
-use Rattle.tally.specs.Demand.{acceptedVolume, AcceptedIn, here, later, Analysed, nothing, Claim}
+use Rattle.tally.specs.Demand.{acceptedVolume, AcceptedIn, here, later, AnalysisShown, nothing, Claim}
 use Rattle.tally.proofs.Alike.{Alike}
 use Rattle.tally.proofs.Steps.{Linked, asked, step}
 use Rattle.tally.proofs.Volumes.{volume-sum}
@@ -36,7 +36,7 @@ mean-within t n v x p h =
     }
 
 -- a fresh meter beside a fresh tally
-fresh-alike : Alike freshStream freshKept
+fresh-alike : Alike freshStream freshStreamTally
 fresh-alike = record { inForce = nothing; pair = refl; volume = refl; energy = record { rest = omega arith; amount = refl; within = omega arith } }
 
 everywhere : {A : Type 0} (n k : ℕ) (x : A) → getD (replicate n x) k x ≡ x
@@ -46,7 +46,7 @@ everywhere (suc n) (suc k) x = everywhere n k x
 
 fresh-linked : Linked freshMeter freshTally
 fresh-linked =
-    record { sound = fresh-is-sound; count = refl; each = λ k. rw (everywhere 16 k freshStream, everywhere 16 k freshKept) fresh-alike }
+    record { sound = fresh-is-sound; count = refl; each = λ k. rw (everywhere 16 k freshStream, everywhere 16 k freshStreamTally) fresh-alike }
 
 -- a list of calls
 record Ran (t : Tally) (cs : List Call) (rs : List Answer) (m : Meter) : Type 0 where
@@ -61,16 +61,16 @@ run t h (after m m₁ m₂ c a cs rs s more) =
     record { answers = cc (n .answer, r .answers); linked = r .linked }
 
 -- an accepted analysis of the list
-analysis-shown : (bs : List ℕ) (k : ℕ) (s : Kept) → firstOf (orderOf k (analysis bs) s) ≡ 0 → Analysed bs
+analysis-shown : (bs : List ℕ) (k : ℕ) (s : StreamTally) → firstOf (orderOf k (analysis bs) s) ≡ 0 → AnalysisShown bs
 analysis-shown bs k s z =
     let last : Order = (14, otherPair (s .pair) (combustionIn bs) (meteringIn bs)) ∷ [] in
     let clear = clear-first (recordOrder bs) last tt (clear-second ((13, above15 k) ∷ []) (recordOrder bs ++ last) tt z) in
     let reads : readingOf bs ≡ accepted (contentsIn bs) = ap (λ (n : ℕ). decided n (contentsIn bs)) clear in
     record { contents = contentsIn bs; reads = reads; shown = every-accepted-record bs (contentsIn bs) reads }
 
-analyses : (bs : List ℕ) (t : Tally) {cs : List Call} {rs : List Answer} → rs ≡ answersTo t cs → AcceptedIn bs cs rs → Analysed bs
+analyses : (bs : List ℕ) (t : Tally) {cs : List Call} {rs : List Answer} → rs ≡ answersTo t cs → AcceptedIn bs cs rs → AnalysisShown bs
 analyses bs t e (here k cs rs) =
-    analysis-shown bs k (keptAt t k) (decided-accepted _ done done (sym (ap (λ (l : List Answer). getD l 0 (refused 0)) e)) .0)
+    analysis-shown bs k (tallyAt t k) (decided-accepted _ done done (sym (ap (λ (l : List Answer). getD l 0 (refused 0)) e)) .0)
 analyses bs t e (later c a cs rs more) = analyses bs (tallyAfter t c) (ap (drop 1) e) more
 
 pub demand3 : Claim
@@ -81,12 +81,12 @@ demand3 m₀ m cs rs made ran =
     record {
       answers = r .answers;
       each = λ k b.
-          let l = keptAt t k in
+          let l = tallyAt t k in
           let a = r .linked .each k in
           record {
             volume =
                 omega
-                (arith, volume-sum k b freshTally cs refl, ap (λ (x : Kept). x .volume) (everywhere 16 k freshKept), ap (acceptedVolume k cs) (r .answers));
+                (arith, volume-sum k b freshTally cs refl, ap (λ (x : StreamTally). x .volume) (everywhere 16 k freshStreamTally), ap (acceptedVolume k cs) (r .answers));
             totals = λ x got. step m t (r .linked) (by-totals k x got) .answer ∙ rw (le-ltb 15 k (omega arith));
             mean = λ x got p. step m t (r .linked) (by-mean k x got) .answer ∙ rw (le-ltb 15 k (omega arith), ne-eqb (l .volume) 0 (omega arith));
             no-mean = λ x got p. step m t (r .linked) (by-mean k x got) .answer ∙ rw (le-ltb 15 k (omega arith), eq-eqb (l .volume) 0 p);

@@ -20,7 +20,7 @@ use Rattle.meter.specs.Calls.{analysed, metered, totalsIn, meanIn}
 use Rattle.meter.specs.Answers.{totalsMeaning, meanMeaning}
 use Rattle.meter.proofs.Orders.{clear-analysis, clear-metering}
 use Rattle.meter.proofs.Kept.{analysis-keeps, metering-keeps}
-use Rattle.tally.specs.Tally.{Ask, analysis, metering, totals, mean, Call, Given, done, totalsAre, meanIs, Answer, Kept, freshKept, Tally, keptAt, keptAfter, givenBy, numberFor, answerTo, tallyAfter}
+use Rattle.tally.specs.Tally.{Ask, analysis, metering, totals, mean, Call, Given, done, totalsAre, meanIs, Answer, StreamTally, freshStreamTally, Tally, tallyAt, leftBy, givenBy, numberFor, answerTo, tallyAfter}
 use Rattle.tally.specs.Run.{changeAnswer, Step, by-analysis, by-metering, by-totals, by-mean}
 use Rattle.tally.specs.Demand.{Asked}
 use Rattle.tally.proofs.Alike.{Alike, analysis-order, metering-order, mean-order, analysis-alike, metering-alike, totals-alike, mean-alike}
@@ -29,7 +29,7 @@ use Rattle.tally.proofs.Alike.{Alike, analysis-order, metering-order, m
 pub record Linked (m : Meter) (t : Tally) : Type 0 where
   pub sound : Sound m
   pub count : length t ≡ 16
-  pub each : (k : ℕ) → Alike (streamAt m k) (keptAt t k)
+  pub each : (k : ℕ) → Alike (streamAt m k) (tallyAt t k)
 
 -- what holds of every meter is all that the contracts require
 pub asked : (m : Meter) → Sound m → Asked m
@@ -47,25 +47,25 @@ meaning-of (Refused n) x y = refl
 
 module _ (m : Meter) (t : Tally) (h : Linked m t) where
   -- one stream is replaced on both sides
-  each-with : (k : ℕ) (s : Stream) (l : Kept) → k < 16 → Alike s l → (j : ℕ) → Alike (streamAt (withStream m k s) j) (keptAt (set t k l) j)
+  each-with : (k : ℕ) (s : Stream) (l : StreamTally) → k < 16 → Alike s l → (j : ℕ) → Alike (streamAt (withStream m k s) j) (tallyAt (set t k l) j)
   each-with k s l b a j = at (ℕ-discrete j k)
     where
-      at : Dec (j ≡ k) → Alike (streamAt (withStream m k s) j) (keptAt (set t k l) j)
+      at : Dec (j ≡ k) → Alike (streamAt (withStream m k s) j) (tallyAt (set t k l) j)
       at (yes e) =
           let p : k < length (m .streams) = omega (arith, h .sound .count) in
           let q : k < length t = omega (arith, h .count) in
-          rw (e, getD-set-same (m .streams) k s freshStream p, getD-set-same t k l freshKept q) a
-      at (no e) = rw (getD-set-other (m .streams) k j s freshStream e, getD-set-other t k j l freshKept e) (h .each j)
+          rw (e, getD-set-same (m .streams) k s freshStream p, getD-set-same t k l freshStreamTally q) a
+      at (no e) = rw (getD-set-other (m .streams) k j s freshStream e, getD-set-other t k j l freshStreamTally e) (h .each j)
 
-  linked-with : (n k : ℕ) (s : Stream) (l : Kept) → (n ≡ 0 → (k < 16) × Alike s l) → Sound (otherwise m (decided n (withStream m k s))) →
+  linked-with : (n k : ℕ) (s : Stream) (l : StreamTally) → (n ≡ 0 → (k < 16) × Alike s l) → Sound (otherwise m (decided n (withStream m k s))) →
       Linked (otherwise m (decided n (withStream m k s))) (otherwise t (decided n (set t k l)))
   linked-with zero k s l new sound = let a = new refl in record { sound = sound; count = length-set t k l ∙ h .count; each = each-with k s l (a .0) (a .1) }
   linked-with (suc n) k s l new sound = h
 
   -- a call that may change its stream
   changes : (k : ℕ) (ask : Ask) (s : Stream) (n : ℕ) → n ≡ numberFor t (record { stream = k; ask = ask }) →
-      (n ≡ 0 → (k < 16) × Alike s (keptAfter ask (keptAt t k))) →
-      done ≡ givenBy ask (keptAt t k) →
+      (n ≡ 0 → (k < 16) × Alike s (leftBy ask (tallyAt t k))) →
+      done ≡ givenBy ask (tallyAt t k) →
       (v : Verdict) (after : Meter) → Gives (decided n (withStream m k s)) m v after → Sound after →
       Next t (record { stream = k; ask = ask }) (changeAnswer v) after
   changes k ask s n is new gives-done v after gives sound =
@@ -75,16 +75,16 @@ module _ (m : Meter) (t : Tally) (h : Linked m t) where
             ∙ ap (mapped (λ (x : Meter). done)) (gives .means)
             ∙ mapped-decided (λ (x : Meter). done) n (withStream m k s)
             ∙ rw (is, gives-done);
-        linked = rw (gives .stands, sym is) (linked-with n k s (keptAfter ask (keptAt t k)) new (subst Sound (gives .stands) sound));
+        linked = rw (gives .stands, sym is) (linked-with n k s (leftBy ask (tallyAt t k)) new (subst Sound (gives .stands) sound));
       }
 
   -- a reading
-  same-tally : (n k : ℕ) → otherwise t (decided n (set t k (keptAt t k))) ≡ t
-  same-tally zero k = set-getD t k freshKept
+  same-tally : (n k : ℕ) → otherwise t (decided n (set t k (tallyAt t k))) ≡ t
+  same-tally zero k = set-getD t k freshStreamTally
   same-tally (suc n) k = refl
 
   reads : {A : Type 0} (f : A → Given) (k : ℕ) (ask : Ask) (o : Outcome A) (n : ℕ) (x : A) → n ≡ numberFor t (record { stream = k; ask = ask }) →
-      o ≡ decided n x → f x ≡ givenBy ask (keptAt t k) → keptAfter ask (keptAt t k) ≡ keptAt t k →
+      o ≡ decided n x → f x ≡ givenBy ask (tallyAt t k) → leftBy ask (tallyAt t k) ≡ tallyAt t k →
       Next t (record { stream = k; ask = ask }) (mapped f o) m
   reads f k ask o n x is got same keeps =
       record {
@@ -95,19 +95,19 @@ module _ (m : Meter) (t : Tally) (h : Linked m t) where
   pub step : {c : Call} {a : Answer} {m₁ : Meter} → Step m c a m₁ → Next t c a m₁
   step (by-analysis κs k b r got) =
       let s = streamAt m k in
-      let l = keptAt t k in
+      let l = tallyAt t k in
       let bs = now b in
       changes k (analysis bs) (analysed s bs) (firstOf (analysisOrder k bs s)) (ap firstOf (analysis-order s l (h .each k) k bs))
       (λ z. (clear-analysis k bs s z .stream, analysis-alike s l (h .each k) k bs z)) refl (r .verdict) (r .meter) (got tt) (analysis-keeps m k bs (r .verdict) (r .meter) (got tt) (h .sound))
   step (by-metering k v r got) =
       let s = streamAt m k in
-      let l = keptAt t k in
+      let l = tallyAt t k in
       changes k (metering v) (metered s v) (firstOf (meteringOrder k v s)) (ap firstOf (metering-order s l (h .each k) k v))
       (λ z. (clear-metering k v s z .stream, metering-alike s l (h .each k) k v z)) refl (r .verdict) (r .meter) (got (h .sound)) (metering-keeps m k v (r .verdict) (r .meter) (got (h .sound)) (h .sound))
   step (by-totals k r got) =
       reads (λ (x : StreamTotals). totalsAre (x .volume) (x .energy .whole) (x .energy .rest)) k totals (totalsMeaning r) (firstOf (totalsOrder k))
-      (totalsIn (streamAt m k)) refl (got tt) (totals-alike (streamAt m k) (keptAt t k) (h .each k)) refl
+      (totalsIn (streamAt m k)) refl (got tt) (totals-alike (streamAt m k) (tallyAt t k) (h .each k)) refl
   step (by-mean k r got) =
       let s = streamAt m k in
-      let l = keptAt t k in
+      let l = tallyAt t k in
       reads meanIs k mean (meanMeaning r) (firstOf (meanOrder k s)) (meanIn s) (ap firstOf (mean-order s l (h .each k) k)) (got (h .sound)) (mean-alike s l (h .each k)) refl

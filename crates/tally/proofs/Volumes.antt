@@ -12,7 +12,7 @@ use lib.ListN.{length, set, length-set}
 use lib.Seq.{getD-set-same, getD-set-other}
 use Rattle.records.specs.Order.{firstOf, refused, accepted, decided, otherwise}
 use Rattle.records.proofs.OrderLaws.{unmet}
-use Rattle.tally.specs.Tally.{Ask, analysis, metering, totals, mean, Call, Kept, freshKept, Tally, keptAt, noRecord, orderOf, meteredBy, keptAfter, givenBy, numberFor, tallyAfter, answersTo, tallied}
+use Rattle.tally.specs.Tally.{Ask, analysis, metering, totals, mean, Call, StreamTally, freshStreamTally, Tally, tallyAt, noRecord, orderOf, meteredBy, leftBy, givenBy, numberFor, tallyAfter, answersTo, tallied}
 use Rattle.tally.specs.Demand.{addedBy, acceptedVolume}
 
 -- a refused call adds nothing
@@ -23,11 +23,11 @@ refused-adds totals n = refl
 refused-adds mean n = refl
 
 -- an accepted call adds its volume
-metered-adds : (o : Option (List ℕ)) (v : ℕ) (s : Kept) → noRecord o ≡ false → meteredBy o v s .volume ≡ s .volume + v
+metered-adds : (o : Option (List ℕ)) (v : ℕ) (s : StreamTally) → noRecord o ≡ false → meteredBy o v s .volume ≡ s .volume + v
 metered-adds none v s h = elim (true≢false h) [ ]
 metered-adds (some bs) v s h = refl
 
-accepted-adds : (k : ℕ) (ask : Ask) (s : Kept) → firstOf (orderOf k ask s) ≡ 0 → keptAfter ask s .volume ≡ s .volume + addedBy ask (accepted (givenBy ask s))
+accepted-adds : (k : ℕ) (ask : Ask) (s : StreamTally) → firstOf (orderOf k ask s) ≡ 0 → leftBy ask s .volume ≡ s .volume + addedBy ask (accepted (givenBy ask s))
 accepted-adds k (analysis bs) s z = omega arith
 accepted-adds k (metering v) s z = metered-adds (s .inForce) v s (unmet (orderOf k (metering v) s) tt z 16)
 accepted-adds k totals s z = omega arith
@@ -36,32 +36,32 @@ accepted-adds k mean s z = omega arith
 count-after : (t : Tally) (c : Call) → length t ≡ 16 → length (tallyAfter t c) ≡ 16
 count-after t c h = go (numberFor t c)
   where
-    go : (n : ℕ) → length (otherwise t (decided n (set t (c .stream) (keptAfter (c .ask) (keptAt t (c .stream)))))) ≡ 16
+    go : (n : ℕ) → length (otherwise t (decided n (set t (c .stream) (leftBy (c .ask) (tallyAt t (c .stream)))))) ≡ 16
     go zero = length-set t (c .stream) _ ∙ h
     go (suc n) = h
 
 module _ (k : ℕ) (b : k < 16) where
   -- what a call with the number n adds to the stream k
   volume-step : (t : Tally) (c : Call) → length t ≡ 16 → (n : ℕ) → numberFor t c ≡ n →
-      keptAt (otherwise t (decided n (set t (c .stream) (keptAfter (c .ask) (keptAt t (c .stream)))))) k .volume
-      ≡ keptAt t k .volume + cond (eqb (c .stream) k) (addedBy (c .ask) (decided n (givenBy (c .ask) (keptAt t (c .stream))))) 0
+      tallyAt (otherwise t (decided n (set t (c .stream) (leftBy (c .ask) (tallyAt t (c .stream)))))) k .volume
+      ≡ tallyAt t k .volume + cond (eqb (c .stream) k) (addedBy (c .ask) (decided n (givenBy (c .ask) (tallyAt t (c .stream))))) 0
   volume-step t c h zero z = at (ℕ-discrete k (c .stream))
     where
-      new : Kept
-      new = keptAfter (c .ask) (keptAt t (c .stream))
+      new : StreamTally
+      new = leftBy (c .ask) (tallyAt t (c .stream))
 
       at : Dec (k ≡ c .stream) →
-          keptAt (set t (c .stream) new) k .volume ≡ keptAt t k .volume + cond (eqb (c .stream) k) (addedBy (c .ask) (accepted (givenBy (c .ask) (keptAt t (c .stream))))) 0
+          tallyAt (set t (c .stream) new) k .volume ≡ tallyAt t k .volume + cond (eqb (c .stream) k) (addedBy (c .ask) (accepted (givenBy (c .ask) (tallyAt t (c .stream))))) 0
       at (yes e) =
           let p : c .stream < length t = omega arith in
-          rw (e, eq-eqb (c .stream) (c .stream) refl, getD-set-same t (c .stream) new freshKept p) (accepted-adds (c .stream) (c .ask) (keptAt t (c .stream)) z)
-      at (no e) = rw (ne-eqb (c .stream) k (λ q. e (sym q)), getD-set-other t (c .stream) k new freshKept e) (omega arith)
+          rw (e, eq-eqb (c .stream) (c .stream) refl, getD-set-same t (c .stream) new freshStreamTally p) (accepted-adds (c .stream) (c .ask) (tallyAt t (c .stream)) z)
+      at (no e) = rw (ne-eqb (c .stream) k (λ q. e (sym q)), getD-set-other t (c .stream) k new freshStreamTally e) (omega arith)
   volume-step t c h (suc n) z = go (eqb (c .stream) k)
     where
-      go : (x : Bool) → keptAt t k .volume ≡ keptAt t k .volume + cond x (addedBy (c .ask) (refused (suc n))) 0
+      go : (x : Bool) → tallyAt t k .volume ≡ tallyAt t k .volume + cond x (addedBy (c .ask) (refused (suc n))) 0
       go true = rw (refused-adds (c .ask) (suc n)) (omega arith)
       go false = omega arith
 
-  pub volume-sum : (t : Tally) (cs : List Call) → length t ≡ 16 → keptAt (tallied t cs) k .volume ≡ keptAt t k .volume + acceptedVolume k cs (answersTo t cs)
+  pub volume-sum : (t : Tally) (cs : List Call) → length t ≡ 16 → tallyAt (tallied t cs) k .volume ≡ tallyAt t k .volume + acceptedVolume k cs (answersTo t cs)
   volume-sum t [] h = omega arith
   volume-sum t (c ∷ cs) h = omega (arith, volume-step t c h (numberFor t c) refl, volume-sum (tallyAfter t c) cs (count-after t c h))

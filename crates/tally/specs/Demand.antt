@@ -22,7 +22,7 @@ use Rattle.meter.specs.declared.Meter.{Meter}
 use Rattle.meter.specs.declared.TotalsAnswer.{TotalsAnswer}
 use Rattle.meter.specs.declared.MeanAnswer.{MeanAnswer}
 use Rattle.meter.specs.State.{streamAt}
-use Rattle.tally.specs.Tally.{Ask, analysis, metering, totals, mean, Call, done, totalsAre, meanIs, Answer, Account, Kept, keptAt, freshTally, answersTo, tallied}
+use Rattle.tally.specs.Tally.{Ask, analysis, metering, totals, mean, Call, done, totalsAre, meanIs, Answer, Account, StreamTally, tallyAt, freshTally, answersTo, tallied}
 use Rattle.tally.specs.Run.{AnalysisAsks, MeteringAsks, TotalsAsks, MeanAsks, FreshReturns, TotalsReturns, MeanReturns, totalsAnswer, meanAnswer, Run}
 
 -- the volume that a call added: that of an accepted metering call
@@ -45,7 +45,7 @@ pub data AcceptedIn (bs : List ℕ) : List Call → List Answer → Type 0 where
   later : (c : Call) (a : Answer) (cs : List Call) (rs : List Answer) → AcceptedIn bs cs rs → AcceptedIn bs (c ∷ cs) (a ∷ rs)
 
 -- what a record reads as, with its properties, their ceilings and their distances from the unrounded formula
-pub record Analysed (bs : List ℕ) : Type 0 where
+pub record AnalysisShown (bs : List ℕ) : Type 0 where
   pub contents : Contents
   pub reads : readingOf bs ≡ accepted contents
   pub shown : Shown bs contents
@@ -57,12 +57,12 @@ pub data SameInForce : InForce → Option (List ℕ) → Type 0 where
       accepted (numbers (gas .properties)) ≡ propertiesOf bs → SameInForce (Known gas) (some bs)
 
 -- the booked energy E is within 2 mJ per dm³ of V from the exact energy X, and where V is above 0 the mean is within 3 J/m³ of X / V
-pub record Near (v : ℕ) (a : Account) : Type 0 where
+pub record AccountWithin (v : ℕ) (a : Account) : Type 0 where
   pub energy : Within (whole (2 * v)) (a .booked) (a .exact)
   pub mean : 0 < v → Within (whole 3) (near (a .booked) v) (dividedBy (a .exact) v)
 
 -- the stream k after the list; s is what the tally keeps for it
-pub record OfStream (k : ℕ) (s : Kept) (cs : List Call) (rs : List Answer) (m : Meter) : Type 0 where
+pub record StreamDemand (k : ℕ) (s : StreamTally) (cs : List Call) (rs : List Answer) (m : Meter) : Type 0 where
   -- V is the sum of the accepted volumes
   pub volume : s .volume ≡ acceptedVolume k cs rs
   -- a reading of totals made then answers V, and E as whole MJ and rest
@@ -71,7 +71,7 @@ pub record OfStream (k : ℕ) (s : Kept) (cs : List Call) (rs : List Answer) (m 
   -- a reading of the mean made then answers near(E / V), or 18 where V is 0
   pub mean : (r : MeanAnswer) → MeanReturns m k r → 0 < s .volume → meanAnswer r ≡ accepted (meanIs (near (s .energy .booked) (s .volume)))
   pub no-mean : (r : MeanAnswer) → MeanReturns m k r → s .volume ≡ 0 → meanAnswer r ≡ refused 18
-  pub near : Near (s .volume) (s .energy)
+  pub near : AccountWithin (s .volume) (s .energy)
   pub inForce : SameInForce (streamAt m k .analysis) (s .inForce)
 
 -- what the contracts require of a meter, with any other arguments
@@ -85,9 +85,9 @@ pub record Demand3 (cs : List Call) (rs : List Answer) (m : Meter) : Type 0 wher
   -- each call is accepted where the tally accepts it, refused by the tally's number where not, and each accepted reading answers what
   -- the tally gives
   pub answers : rs ≡ answersTo freshTally cs
-  pub each : (k : ℕ) → k < 16 → OfStream k (keptAt (tallied freshTally cs) k) cs rs m
+  pub each : (k : ℕ) → k < 16 → StreamDemand k (tallyAt (tallied freshTally cs) k) cs rs m
   -- each accepted analysis of the list
-  pub analyses : (bs : List ℕ) → AcceptedIn bs cs rs → Analysed bs
+  pub analyses : (bs : List ℕ) → AcceptedIn bs cs rs → AnalysisShown bs
   -- what the contracts require holds after the list
   pub asked : Asked m
 

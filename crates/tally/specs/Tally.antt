@@ -46,25 +46,25 @@ abbrev pub grown : ℕ → ℕ → Fraction → Account → Account
 grown v h x a = record { booked = a .booked + v * h; exact = plus (a .exact) (times v x) }
 
 -- what the tally keeps for a stream: the record in force, the pair (combustion, metering), the volume V in dm³, and the energy
-pub record Kept : Type 0 where
+pub record StreamTally : Type 0 where
   pub inForce : Option (List ℕ)
   pub pair : Option (ℕ × ℕ)
   pub volume : ℕ
   pub energy : Account
 
 -- at first: no record, no pair, and V, E and X are 0
-abbrev pub freshKept : Kept
-freshKept = record { inForce = none; pair = none; volume = 0; energy = record { booked = 0; exact = whole 0 } }
+abbrev pub freshStreamTally : StreamTally
+freshStreamTally = record { inForce = none; pair = none; volume = 0; energy = record { booked = 0; exact = whole 0 } }
 
 -- the streams 0 to 15
 abbrev pub Tally : Type 0
-Tally = List Kept
+Tally = List StreamTally
 
 abbrev pub freshTally : Tally
-freshTally = replicate 16 freshKept
+freshTally = replicate 16 freshStreamTally
 
-abbrev pub keptAt : Tally → ℕ → Kept
-keptAt t k = getD t k freshKept
+abbrev pub tallyAt : Tally → ℕ → StreamTally
+tallyAt t k = getD t k freshStreamTally
 
 -- 13: stream above 15
 abbrev pub above15 : ℕ → Bool
@@ -94,27 +94,27 @@ noVolume total = eqb total 0
 
 -- the conditions in the call's order, on the stream k with the tally's own pair, record and V: analysis 13, 1 to 12, 14; metering
 -- 13, 15, 16, 17; totals 13; mean 13, 18
-abbrev pub orderOf : ℕ → Ask → Kept → Order
+abbrev pub orderOf : ℕ → Ask → StreamTally → Order
 orderOf k (analysis bs) s = (13, above15 k) ∷ recordOrder bs ++ ((14, otherPair (s .pair) (combustionIn bs) (meteringIn bs)) ∷ [])
 orderOf k (metering v) s = (13, above15 k) ∷ (15, largeVolume v) ∷ (16, noRecord (s .inForce)) ∷ (17, wouldPass (s .volume) v) ∷ []
 orderOf k totals s = (13, above15 k) ∷ []
 orderOf k mean s = (13, above15 k) ∷ (18, noVolume (s .volume)) ∷ []
 
 -- an accepted volume v: V grows by v, E by v × Hs, X by v × the unrounded Hs, both of the record in force
-abbrev pub meteredBy : Option (List ℕ) → ℕ → Kept → Kept
+abbrev pub meteredBy : Option (List ℕ) → ℕ → StreamTally → StreamTally
 meteredBy none v s = s
 meteredBy (some bs) v s =
     record { inForce = s .inForce; pair = s .pair; volume = s .volume + v; energy = grown v (Hs (contentsIn bs)) (unrounded.Hs (contentsIn bs)) (s .energy) }
 
 -- what an accepted call leaves: an analysis brings its record into force, and its pair is the stream's; a reading changes nothing
-abbrev pub keptAfter : Ask → Kept → Kept
-keptAfter (analysis bs) s = record { inForce = some bs; pair = some (combustionIn bs, meteringIn bs); volume = s .volume; energy = s .energy }
-keptAfter (metering v) s = meteredBy (s .inForce) v s
-keptAfter totals s = s
-keptAfter mean s = s
+abbrev pub leftBy : Ask → StreamTally → StreamTally
+leftBy (analysis bs) s = record { inForce = some bs; pair = some (combustionIn bs, meteringIn bs); volume = s .volume; energy = s .energy }
+leftBy (metering v) s = meteredBy (s .inForce) v s
+leftBy totals s = s
+leftBy mean s = s
 
 -- what an accepted call answers: totals give V, and E as whole MJ and rest; the mean gives near(E / V)
-abbrev pub givenBy : Ask → Kept → Given
+abbrev pub givenBy : Ask → StreamTally → Given
 givenBy (analysis bs) s = done
 givenBy (metering v) s = done
 givenBy totals s = totalsAre (s .volume) (s .energy .booked / 1000000000) (s .energy .booked % 1000000000)
@@ -122,13 +122,13 @@ givenBy mean s = meanIs (near (s .energy .booked) (s .volume))
 
 -- one call: refused by the first condition that holds, and then the tally stays as it is, or accepted
 abbrev pub numberFor : Tally → Call → ℕ
-numberFor t c = firstOf (orderOf (c .stream) (c .ask) (keptAt t (c .stream)))
+numberFor t c = firstOf (orderOf (c .stream) (c .ask) (tallyAt t (c .stream)))
 
 abbrev pub answerTo : Tally → Call → Answer
-answerTo t c = decided (numberFor t c) (givenBy (c .ask) (keptAt t (c .stream)))
+answerTo t c = decided (numberFor t c) (givenBy (c .ask) (tallyAt t (c .stream)))
 
 abbrev pub tallyAfter : Tally → Call → Tally
-tallyAfter t c = otherwise t (decided (numberFor t c) (set t (c .stream) (keptAfter (c .ask) (keptAt t (c .stream)))))
+tallyAfter t c = otherwise t (decided (numberFor t c) (set t (c .stream) (leftBy (c .ask) (tallyAt t (c .stream)))))
 
 -- a list of calls: the answers, and the tally after it
 abbrev pub answersTo : Tally → List Call → List Answer
