@@ -1,6 +1,6 @@
 // The meter of document 01: sixteen streams, each with the analysis in force, a volume total and an energy register. Every call, with
-// any arguments, gets its answer or the one number of its refusal. A call takes the meter by value and gives it back; what it was
-// refused, it gives back as it was.
+// any arguments, gets its answer or the one number of its refusal. A call that may change the meter takes it by value and gives it
+// back, as it was where the call is refused.
 use properties::Answer;
 use properties::Properties;
 use properties::quantities::CalorificValue;
@@ -79,7 +79,7 @@ pub fn fresh() -> Meter
     }
 }
 
-// 14.
+// 14: the pair is not the stream's.
 fn pair_differs(earlier: InForce, combustion: u8, metering: u8) -> bool
     ensures { λ r. ⌜ r ≡ pairDiffers earlier combustion metering ⌝ }
 {
@@ -99,7 +99,7 @@ fn pair_number(fourteen: bool) -> u8
     0
 }
 
-// The record's properties come into force.
+// The properties of a record come into force on a stream.
 pub fn analysis(mut meter: Meter, stream: usize, bytes: &[u8]) -> Changed
     ensures { λ r. ⌜ Gives (analysisOf meter stream (now (bytes .entry))) meter (r .verdict) (r .meter) ⌝ }
 {
@@ -147,7 +147,7 @@ fn hs_in_force(analysis: InForce) -> u64
     }
 }
 
-// 16.
+// 16: the stream has no analysis.
 fn no_analysis(analysis: InForce) -> bool
     ensures { λ r. ⌜ r ≡ noAnalysis analysis ⌝ }
 {
@@ -201,7 +201,7 @@ fn metered(before: Stream, volume: u64) -> Stream
     }
 }
 
-// The stream takes the volume, in dm³.
+// A stream takes a volume, in dm³.
 pub fn metering(mut meter: Meter, stream: usize, volume: u64) -> Changed
     requires { ⌜ Sound meter ⌝ }
     ensures { λ r. ⌜ Gives (meteringOf meter stream volume) meter (r .verdict) (r .meter) ⌝ }
@@ -235,7 +235,7 @@ pub fn totals(meter: Meter, stream: usize) -> TotalsAnswer
     TotalsAnswer::Accepted(StreamTotals { volume, energy })
 }
 
-// The mean calorific value of what a stream has taken.
+// The mean calorific value of what a stream has taken, in J/m³.
 pub fn mean(meter: Meter, stream: usize) -> MeanAnswer
     requires { ⌜ Sound meter ⌝ }
     ensures { λ r. ⌜ meanMeaning r ≡ meanOf meter stream ⌝ }
