@@ -1,6 +1,6 @@
 pub mod Outcomes
 pub mod Orders
 pub mod Registers
-pub mod Changes
+mod Analyses
 mod Means
 pub mod Kept

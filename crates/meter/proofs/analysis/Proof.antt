@@ -14,9 +14,11 @@ use Rattle.properties.specs.Chain.{propertiesOf}
 use Rattle.properties.specs.Answers.{numbers, meaning}
 use Rattle.properties.proofs.Outcomes.{number-of-refused}
 use Rattle.meter.specs.declared.Meter.{Meter}
-use Rattle.meter.specs.State.{streamAt}
+use Rattle.meter.specs.State.{streamAt, withStream}
+use Rattle.meter.specs.Calls.{analysed}
 use Rattle.meter.proofs.Orders.{analysis-above}
-use Rattle.meter.proofs.Changes.{record-head, record-refused, record-accepted, analysis-refused, analysis-accepted}
+use Rattle.meter.proofs.Outcomes.{gives-refusal, gives-answer}
+use Rattle.meter.proofs.Analyses.{analysed-is, record-head, record-refused, record-accepted}
 use Rattle.meter.proofs.analysis.Statement.{statement}
 use Rattle.meter.proofs.analysis.Tie as tie
 
@@ -85,20 +87,22 @@ returns c =
     let j = c .before in
     let s = j .before .before in
     let v = c .verdict-of .ensures in
+    let old = streamAt (m s) (k s) in
+    let new = withStream (m s) (k s) (analysed old (bs s)) in
     ⊎-elim
     (λ x.
     let e = is-refused s (x .1 .ensures) (x .3 .given .1) in
-    analysis-refused (m s) (k s) (bs s) v (x .6 ∙ record-refused (m s) (k s) (bs s) (x .0 .taken) _ e) (λ z. number-of-refused (bs s) _ e .1 (sym (x .6) ∙ z)) (x .5))
+    gives-refusal new (m s) v (x .6 ∙ record-refused (m s) (k s) (bs s) (x .0 .taken) _ e) (λ z. number-of-refused (bs s) _ e .1 (sym (x .6) ∙ z)) (x .5))
     (⊎-elim
     (λ x.
     let e = is-accepted s (x .1 .ensures) (x .3 .given .1) in
-    analysis-accepted (m s) (k s) (bs s) v (x .13 ∙ record-accepted (m s) (k s) (bs s) (x .0 .taken) _ e (x .8 .ensures) (x .9 .ensures)) (omega (arith, x .13, x .10 .taken)) _ e (x .12))
+    gives-answer new (m s) v (x .13 ∙ record-accepted (m s) (k s) (bs s) (x .0 .taken) _ e (x .8 .ensures) (x .9 .ensures)) (omega (arith, x .13, x .10 .taken))
+    (x .12 ∙ ap (withStream (m s) (k s)) (analysed-is old _ (bs s) e)))
     (⊎-elim
     (λ x.
     let e = is-accepted s (x .1 .ensures) (x .3 .given .1) in
-    analysis-refused (m s) (k s) (bs s) v (x .12 ∙ record-accepted (m s) (k s) (bs s) (x .0 .taken) _ e (x .8 .ensures) (x .9 .ensures)) (λ z. omega (arith, x .12, x .10 .left)) (x .11))
-    (λ x.
-    analysis-refused (m s) (k s) (bs s) v (x .2 ∙ analysis-above (k s) (bs s) (streamAt (m s) (k s)) (x .0 .left)) (λ z. omega (arith, x .2)) (x .1))))
+    gives-refusal new (m s) v (x .12 ∙ record-accepted (m s) (k s) (bs s) (x .0 .taken) _ e (x .8 .ensures) (x .9 .ensures)) (λ z. omega (arith, x .12, x .10 .left)) (x .11))
+    (λ x. gives-refusal new (m s) v (x .2 ∙ analysis-above (k s) (bs s) old (x .0 .left)) (λ z. omega (arith, x .2)) (x .1))))
     (j .if1 .came)
 
 pub analysis-spec : {M : Type 1} → statement M

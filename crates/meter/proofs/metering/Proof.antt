@@ -1,5 +1,5 @@
 -- 13, then 15, 16 and 17, or the stream with the volume.
-use mathlib.Core.Path.{_≡_, _∙_}
+use mathlib.Core.Path.{_≡_, ap, _∙_}
 use mathlib.Core.Bool.{Bool}
 use mathlib.Core.Logic.{⊎-elim}
 use Prim.Native.Nat.{ℕ, _-_, _≤_}
@@ -9,10 +9,11 @@ use lib.Dec.{ltb}
 use Rattle.records.specs.Order.{firstOf}
 use Rattle.meter.specs.declared.Stream.{Stream}
 use Rattle.meter.specs.declared.Meter.{Meter}
-use Rattle.meter.specs.State.{SoundStream, streamAt}
+use Rattle.meter.specs.State.{SoundStream, streamAt, withStream}
 use Rattle.meter.specs.Conditions.{volumeAbove, noAnalysis, volumeOrder, meteringOrder}
+use Rattle.meter.specs.Calls.{metered}
 use Rattle.meter.proofs.Orders.{metering-above, metering-number-is, clear-metering}
-use Rattle.meter.proofs.Changes.{metering-refused, metering-accepted}
+use Rattle.meter.proofs.Outcomes.{gives-refusal, gives-answer}
 use Rattle.meter.proofs.metering.Statement.{statement}
 use Rattle.meter.proofs.metering.Tie as tie
 
@@ -75,11 +76,12 @@ returns c =
     let j = c .before in
     let s = j .before in
     let v = c .verdict-of .ensures in
+    let new = withStream (m s) (k s) (metered (stream s) (w s)) in
     ⊎-elim
-    (λ x. metering-accepted (m s) (k s) (w s) v (x .8 ∙ found s (x .0 .taken) (x .3 .ensures) (x .4 .ensures)) (omega arith) (x .6 .ensures) (x .7))
+    (λ x. gives-answer new (m s) v (x .8 ∙ found s (x .0 .taken) (x .3 .ensures) (x .4 .ensures)) (omega arith) (x .7 ∙ ap (withStream (m s) (k s)) (x .6 .ensures)))
     (⊎-elim
-    (λ x. metering-refused (m s) (k s) (w s) v (x .7 ∙ found s (x .0 .taken) (x .3 .ensures) (x .4 .ensures)) (λ z. omega arith) (x .6))
-    (λ x. metering-refused (m s) (k s) (w s) v (x .2 ∙ metering-above (k s) (w s) (stream s) (x .0 .left)) (λ z. omega (arith, x .2)) (x .1)))
+    (λ x. gives-refusal new (m s) v (x .7 ∙ found s (x .0 .taken) (x .3 .ensures) (x .4 .ensures)) (λ z. omega arith) (x .6))
+    (λ x. gives-refusal new (m s) v (x .2 ∙ metering-above (k s) (w s) (stream s) (x .0 .left)) (λ z. omega (arith, x .2)) (x .1)))
     (j .if1 .came)
 
 pub metering-spec : {M : Type 1} → statement M

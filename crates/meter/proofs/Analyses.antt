@@ -1,0 +1,52 @@
+-- An analysis call, from what its code finds of the record.
+use mathlib.Core.Path.{_≡_, refl, sym, ap, _∙_}
+use mathlib.Core.Bool.{Bool}
+use mathlib.Core.List.{List, _++_}
+use Prim.Native.Nat.{ℕ, _≤_}
+use Rattle.records.specs.Order.{Order, firstOf, refused, accepted}
+use Rattle.records.specs.Format.{combustionIn, meteringIn, linesIn, fractionsIn}
+use Rattle.records.specs.Conditions.{headOrder, contentOrder, recordOrder}
+use Rattle.records.proofs.OrderLaws.{stops, passes, clear-first}
+use Rattle.records.proofs.Heads.{Head, head}
+use Rattle.properties.specs.declared.Properties.{Properties}
+use Rattle.properties.specs.Chain.{Six, propertiesOf}
+use Rattle.properties.specs.Answers.{numbers, quantities}
+use Rattle.properties.proofs.Outcomes.{number-of-refused, clear-of-accepted}
+use Rattle.meter.specs.declared.Stream.{Stream}
+use Rattle.meter.specs.declared.Meter.{Meter}
+use Rattle.meter.specs.declared.InForce.the-variants.{Known}
+use Rattle.meter.specs.State.{streamAt}
+use Rattle.meter.specs.Conditions.{pairDiffers, pairOrder, analysisOrder}
+use Rattle.meter.specs.Calls.{analysed}
+use Rattle.meter.proofs.Orders.{not-above}
+
+-- the stream with the properties that were calculated
+pub analysed-is : (s : Stream) (p : Properties) (bs : List ℕ) → accepted (numbers p) ≡ propertiesOf bs →
+    _≡_ {A = Stream}
+    (record { analysis = Known (record { combustion = combustionIn bs; metering = meteringIn bs; properties = p }); volume = s .volume; energy = s .energy })
+    (analysed s bs)
+analysed-is s p bs e =
+    ap
+    (λ (q : Six).
+    record { analysis = Known (record { combustion = combustionIn bs; metering = meteringIn bs; properties = quantities q }); volume = s .volume; energy = s .energy })
+    (sym (clear-of-accepted bs (numbers p) e .1))
+
+-- the head of an accepted record
+pub record-head : (bs : List ℕ) (p : Properties) → accepted (numbers p) ≡ propertiesOf bs → Head bs
+record-head bs p e = head bs (clear-first (headOrder bs) (contentOrder (linesIn bs) (fractionsIn bs)) tt (clear-of-accepted bs (numbers p) e .0))
+
+-- the number of an analysis call, where the record is refused, and where it is accepted
+module _ (m : Meter) (k : ℕ) (bs : List ℕ) where
+  abbrev fourteen : Order
+  fourteen = pairOrder (pairDiffers (streamAt m k .analysis) (combustionIn bs) (meteringIn bs))
+
+  pub record-refused : k ≤ 15 → (n : ℕ) → refused n ≡ propertiesOf bs → n ≡ firstOf (analysisOrder k bs (streamAt m k))
+  record-refused low n e =
+      let r = number-of-refused bs n e in
+      stops (recordOrder bs) fourteen (r .0) (r .1) ∙ not-above (recordOrder bs ++ fourteen) low
+
+  pub record-accepted : k ≤ 15 → (p : Properties) → accepted (numbers p) ≡ propertiesOf bs → {differs : Bool} {n : ℕ} →
+      differs ≡ pairDiffers (streamAt m k .analysis) (combustionIn bs) (meteringIn bs) → n ≡ firstOf (pairOrder differs) → n ≡ firstOf (analysisOrder k bs (streamAt m k))
+  record-accepted low p e differs h =
+      passes (recordOrder bs) fourteen tt refl (clear-of-accepted bs (numbers p) e .0) (h ∙ ap (λ (b : Bool). firstOf (pairOrder b)) differs)
+      ∙ not-above (recordOrder bs ++ fourteen) low
