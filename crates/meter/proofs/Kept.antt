@@ -1,5 +1,5 @@
--- What holds of every meter holds of a meter as made, and every call keeps it.
-use mathlib.Core.Path.{_≡_, refl, sym, subst, _∙_}
+-- What is shown of every meter.
+use mathlib.Core.Path.{_≡_, refl, sym, ap, subst, _∙_}
 use mathlib.Core.List.{List}
 use Prim.Native.Nat.{ℕ, zero, suc, _+_, _≤_, _<_}
 use native.Mathlib.Nat.{mul-le-mul-left}
@@ -21,9 +21,14 @@ use Rattle.meter.specs.declared.Meter.{Meter}
 use Rattle.meter.specs.State.{SoundStream, Sound, freshStream, streamAt, withStream, perMJ}
 use Rattle.meter.specs.Conditions.{analysisOrder, meteringOrder}
 use Rattle.meter.specs.Calls.{analysed, metered}
-use Rattle.meter.specs.Kept.{FreshIsSound, AnalysisKeeps, MeteringKeeps, ZeroIsAccepted}
+use Rattle.meter.specs.Kept.{FreshIsSound, AnalysisKeeps, MeteringKeeps, AnalysisLeavesOthers, MeteringLeavesOthers, ZeroIsAccepted}
 use Rattle.meter.proofs.Orders.{clear-analysis, clear-metering}
 use Rattle.meter.proofs.Registers.{sound-booked}
+
+-- another stream than the one that a call replaces
+other-stays : (n : ℕ) (m : Meter) (k : ℕ) (s : Stream) (j : ℕ) → (j ≡ k → ⊥) → streamAt (otherwise m (decided n (withStream m k s))) j ≡ streamAt m j
+other-stays zero m k s j e = getD-set-other (m .streams) k j s freshStream e
+other-stays (suc n) m k s j e = refl
 
 pub fresh-is-sound : FreshIsSound
 fresh-is-sound = record { count = refl; each = λ k b. rw getD-replicate (omega arith) }
@@ -71,6 +76,16 @@ metering-keeps m k w v after gives h =
   where
     s : Stream
     s = streamAt m k
+
+others-stay : (n : ℕ) (m : Meter) (k : ℕ) (s : Stream) (v : Verdict) (after : Meter) → Gives (decided n (withStream m k s)) m v after →
+    (j : ℕ) → (j ≡ k → ⊥) → streamAt after j ≡ streamAt m j
+others-stay n m k s v after gives j e = ap (λ (x : Meter). streamAt x j) (gives .stands) ∙ other-stays n m k s j e
+
+pub analysis-leaves-others : AnalysisLeavesOthers
+analysis-leaves-others m k bs v after = others-stay (firstOf (analysisOrder k bs (streamAt m k))) m k (analysed (streamAt m k) bs) v after
+
+pub metering-leaves-others : MeteringLeavesOthers
+metering-leaves-others m k w v after = others-stay (firstOf (meteringOrder k w (streamAt m k))) m k (metered (streamAt m k) w) v after
 
 pub zero-is-accepted : ZeroIsAccepted
 zero-is-accepted m k h b some =

@@ -22,6 +22,17 @@ AnalysisKeeps = (m : Meter) (k : ℕ) (bs : List ℕ) (v : Verdict) (after : Met
 abbrev pub MeteringKeeps : Type 0
 MeteringKeeps = (m : Meter) (k w : ℕ) (v : Verdict) (after : Meter) → Gives (meteringOf m k w) m v after → Sound m → Sound after
 
+-- only the named stream may change: every other stream is as it was
+abbrev pub AnalysisLeavesOthers : Type 0
+AnalysisLeavesOthers =
+    (m : Meter) (k : ℕ) (bs : List ℕ) (v : Verdict) (after : Meter) → Gives (analysisOf m k bs) m v after →
+    (j : ℕ) → (j ≡ k → ⊥) → streamAt after j ≡ streamAt m j
+
+abbrev pub MeteringLeavesOthers : Type 0
+MeteringLeavesOthers =
+    (m : Meter) (k w : ℕ) (v : Verdict) (after : Meter) → Gives (meteringOf m k w) m v after →
+    (j : ℕ) → (j ≡ k → ⊥) → streamAt after j ≡ streamAt m j
+
 -- volume 0 is accepted on every stream that has an analysis
 abbrev pub ZeroIsAccepted : Type 0
 ZeroIsAccepted = (m : Meter) (k : ℕ) → Sound m → k < 16 → noAnalysis (streamAt m k .analysis) ≡ false → firstOf (meteringOrder k 0 (streamAt m k)) ≡ 0

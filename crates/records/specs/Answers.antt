@@ -18,7 +18,7 @@ module _ {A : Type 0} where
   meaning (Refused n) value = refused n
 
   -- A verdict and a value give an outcome: they mean it, and beside a refusal stands another value, which is named: the bytes
-  -- that a lent buffer had before, or an analysis of 0 everywhere.
+  -- that a lent buffer had before, an analysis of 0 everywhere, or a meter as it was.
   pub record Gives (outcome : Outcome A) (other : A) (verdict : Verdict) (value : A) : Type 0 where
     pub means : meaning verdict value ≡ outcome
     pub stands : value ≡ otherwise other outcome

@@ -90,7 +90,7 @@ demand3 m₀ m cs rs made ran =
             totals = λ x got. step m t (r .linked) (by-totals k x got) .answer ∙ rw (le-ltb 15 k (omega arith));
             mean = λ x got p. step m t (r .linked) (by-mean k x got) .answer ∙ rw (le-ltb 15 k (omega arith), ne-eqb (l .volume) 0 (omega arith));
             no-mean = λ x got p. step m t (r .linked) (by-mean k x got) .answer ∙ rw (le-ltb 15 k (omega arith), eq-eqb (l .volume) 0 p);
-            near = record { energy = a .energy .within; mean = λ p. mean-within 2 (l .energy .booked) (l .volume) (l .energy .exact) p (a .energy .within) };
+            within = record { energy = a .energy .within; mean = λ p. mean-within 2 (l .energy .booked) (l .volume) (l .energy .exact) p (a .energy .within) };
             inForce = a .inForce;
           };
       analyses = λ bs. analyses bs freshTally (r .answers);

@@ -1,4 +1,4 @@
--- The claim speaks of something: there is a fresh meter, and every list of calls has a run from every meter.
+-- The claim is not empty: there is a fresh meter, and every list of calls has a run from every meter.
 use mathlib.Core.Path.{_≡_, refl}
 use mathlib.Core.List.{[], _∷_}
 use Prim.Native.Nat.{ℕ}

@@ -8,9 +8,9 @@ use lib.ListN.{length, set, length-set}
 use lib.Seq.{getD-set-same, getD-set-other, set-getD}
 use Rattle.records.specs.declared.Verdict.{Verdict}
 use Rattle.records.specs.declared.Verdict.the-variants.{Accepted, Refused}
-use Rattle.records.specs.Order.{Outcome, firstOf, decided, otherwise, mapped}
+use Rattle.records.specs.Order.{Outcome, refused, firstOf, decided, otherwise, mapped}
 use Rattle.records.specs.Answers.{meaning, Gives}
-use Rattle.records.proofs.OrderLaws.{mapped-decided}
+use Rattle.records.proofs.OrderLaws.{mapped-decided, decided-refused}
 use Rattle.meter.specs.declared.Stream.{Stream}
 use Rattle.meter.specs.declared.Meter.{Meter}
 use Rattle.meter.specs.declared.StreamTotals.{StreamTotals}
@@ -19,10 +19,10 @@ use Rattle.meter.specs.Conditions.{analysisOrder, meteringOrder, totalsOrder, m
 use Rattle.meter.specs.Calls.{analysed, metered, totalsIn, meanIn}
 use Rattle.meter.specs.Answers.{totalsMeaning, meanMeaning}
 use Rattle.meter.proofs.Orders.{clear-analysis, clear-metering}
-use Rattle.meter.proofs.Kept.{analysis-keeps, metering-keeps}
+use Rattle.meter.proofs.Kept.{analysis-keeps, metering-keeps, analysis-leaves-others, metering-leaves-others}
 use Rattle.tally.specs.Tally.{Ask, analysis, metering, totals, mean, Call, Given, done, totalsAre, meanIs, Answer, StreamTally, freshStreamTally, Tally, tallyAt, leftBy, givenBy, numberFor, answerTo, tallyAfter}
 use Rattle.tally.specs.Run.{changeAnswer, Step, by-analysis, by-metering, by-totals, by-mean}
-use Rattle.tally.specs.Demand.{Asked}
+use Rattle.tally.specs.Demand.{Asked, Leaves, EveryStepLeaves}
 use Rattle.tally.proofs.Alike.{Alike, analysis-order, metering-order, mean-order, analysis-alike, metering-alike, totals-alike, mean-alike}
 
 -- a meter beside a tally
@@ -111,3 +111,26 @@ module _ (m : Meter) (t : Tally) (h : Linked m t) where
       let s = streamAt m k in
       let l = tallyAt t k in
       reads meanIs k mean (meanMeaning r) (firstOf (meanOrder k s)) (meanIn s) (ap firstOf (mean-order s l (h .each k) k)) (got (h .sound)) (mean-alike s l (h .each k)) refl
+
+-- a call that may change the meter
+changed-leaves : (n : ℕ) (m : Meter) (c : Call) (new : Meter) (v : Verdict) (after : Meter) → Gives (decided n new) m v after →
+    ((j : ℕ) → (j ≡ c .stream → ⊥) → streamAt after j ≡ streamAt m j) → Leaves m c (changeAnswer v) after
+changed-leaves n m c new v after gives others =
+    record {
+      refusal = λ number e. gives .stands ∙ refused-keeps n (sym (gives .means) ∙ meaning-of v done after ∙ ap (mapped (λ (x : Given). after)) e);
+      others = others;
+    }
+  where
+    refused-keeps : (n : ℕ) {number : ℕ} → decided n new ≡ refused number → otherwise m (decided n new) ≡ m
+    refused-keeps zero e = let z = decided-refused zero new _ e in elim (z .1 (z .0)) [ ]
+    refused-keeps (suc n) e = refl
+
+pub every-step-leaves : EveryStepLeaves
+every-step-leaves m m₁ c a ask (by-analysis κs k b r got) =
+    let given = got (ask .analysis κs k b) in
+    changed-leaves (firstOf (analysisOrder k (now b) (streamAt m k))) m _ (withStream m k (analysed (streamAt m k) (now b))) (r .verdict) (r .meter) given (analysis-leaves-others m k (now b) (r .verdict) (r .meter) given)
+every-step-leaves m m₁ c a ask (by-metering k v r got) =
+    let given = got (ask .metering k v) in
+    changed-leaves (firstOf (meteringOrder k v (streamAt m k))) m _ (withStream m k (metered (streamAt m k) v)) (r .verdict) (r .meter) given (metering-leaves-others m k v (r .verdict) (r .meter) given)
+every-step-leaves m m₁ c a ask (by-totals k r got) = record { refusal = λ n e. refl; others = λ j e. refl }
+every-step-leaves m m₁ c a ask (by-mean k r got) = record { refusal = λ n e. refl; others = λ j e. refl }

@@ -3,7 +3,7 @@ use mathlib.Core.Path.{_≡_}
 use mathlib.Core.List.{List, [], _∷_}
 use mathlib.Core.Bool.{cond}
 use mathlib.Core.Option.{Option, none, some}
-use Prim.Native.Nat.{ℕ, _+_, _*_, _/_, _%_, _<_}
+use Prim.Native.Nat.{ℕ, _+_, _*_, _<_}
 use contract.Lifetimes.{Lfts}
 use denote.Ref.{RefT}
 use lib.Dec.{eqb}
@@ -22,8 +22,8 @@ use Rattle.meter.specs.declared.Meter.{Meter}
 use Rattle.meter.specs.declared.TotalsAnswer.{TotalsAnswer}
 use Rattle.meter.specs.declared.MeanAnswer.{MeanAnswer}
 use Rattle.meter.specs.State.{streamAt}
-use Rattle.tally.specs.Tally.{Ask, analysis, metering, totals, mean, Call, done, totalsAre, meanIs, Answer, Account, StreamTally, tallyAt, freshTally, answersTo, tallied}
-use Rattle.tally.specs.Run.{AnalysisAsks, MeteringAsks, TotalsAsks, MeanAsks, FreshReturns, TotalsReturns, MeanReturns, totalsAnswer, meanAnswer, Run}
+use Rattle.tally.specs.Tally.{Ask, analysis, metering, totals, mean, Call, done, Answer, Account, StreamTally, givenBy, tallyAt, freshTally, answersTo, tallied}
+use Rattle.tally.specs.Run.{AnalysisAsks, MeteringAsks, TotalsAsks, MeanAsks, FreshReturns, TotalsReturns, MeanReturns, totalsAnswer, meanAnswer, Step, Run}
 
 -- the volume that a call added: that of an accepted metering call
 abbrev pub addedBy : Ask → Answer → ℕ
@@ -66,12 +66,11 @@ pub record StreamDemand (k : ℕ) (s : StreamTally) (cs : List Call) (rs : List 
   -- V is the sum of the accepted volumes
   pub volume : s .volume ≡ acceptedVolume k cs rs
   -- a reading of totals made then answers V, and E as whole MJ and rest
-  pub totals : (r : TotalsAnswer) → TotalsReturns m k r →
-      totalsAnswer r ≡ accepted (totalsAre (s .volume) (s .energy .booked / 1000000000) (s .energy .booked % 1000000000))
+  pub totals : (r : TotalsAnswer) → TotalsReturns m k r → totalsAnswer r ≡ accepted (givenBy totals s)
   -- a reading of the mean made then answers near(E / V), or 18 where V is 0
-  pub mean : (r : MeanAnswer) → MeanReturns m k r → 0 < s .volume → meanAnswer r ≡ accepted (meanIs (near (s .energy .booked) (s .volume)))
+  pub mean : (r : MeanAnswer) → MeanReturns m k r → 0 < s .volume → meanAnswer r ≡ accepted (givenBy mean s)
   pub no-mean : (r : MeanAnswer) → MeanReturns m k r → s .volume ≡ 0 → meanAnswer r ≡ refused 18
-  pub near : AccountWithin (s .volume) (s .energy)
+  pub within : AccountWithin (s .volume) (s .energy)
   pub inForce : SameInForce (streamAt m k .analysis) (s .inForce)
 
 -- what the contracts require of a meter, with any other arguments
@@ -88,14 +87,22 @@ pub record Demand3 (cs : List Call) (rs : List Answer) (m : Meter) : Type 0 wher
   pub each : (k : ℕ) → k < 16 → StreamDemand k (tallyAt (tallied freshTally cs) k) cs rs m
   -- each accepted analysis of the list
   pub analyses : (bs : List ℕ) → AcceptedIn bs cs rs → AnalysisShown bs
-  -- what the contracts require holds after the list
+  -- what the contracts require holds after the list and, since a list may end anywhere, before each of its calls
   pub asked : Asked m
+
+-- one call: a refused one and a reading leave the meter as it was, and every stream but the named one stays as it was
+pub record Leaves (m : Meter) (c : Call) (a : Answer) (m₁ : Meter) : Type 0 where
+  pub refusal : (n : ℕ) → a ≡ refused n → m₁ ≡ m
+  pub others : (j : ℕ) → (j ≡ c .stream → ⊥) → streamAt m₁ j ≡ streamAt m j
+
+abbrev pub EveryStepLeaves : Type 0
+EveryStepLeaves = (m m₁ : Meter) (c : Call) (a : Answer) → Asked m → Step m c a m₁ → Leaves m c a m₁
 
 -- the claim
 abbrev pub Claim : Type 0
 Claim = (m₀ m : Meter) (cs : List Call) (rs : List Answer) → FreshReturns m₀ → Run m₀ cs rs m → Demand3 cs rs m
 
--- it speaks of something: every list of calls has a run from every meter, and there is a fresh meter
+-- the claim is not empty: every list of calls has a run from every meter, and there is a fresh meter
 pub record HasRun (m : Meter) (cs : List Call) : Type 0 where
   pub answers : List Answer
   pub meter : Meter

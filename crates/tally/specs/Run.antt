@@ -33,7 +33,8 @@ TotalsAsks m k = totals-reads.Asked tt (m, (k, tt))
 abbrev pub MeanAsks : Meter → ℕ → Type 0
 MeanAsks m k = mean-reads.Asked tt (m, (k, tt))
 
--- what is known of a value that the function returned: where its contract's `requires` holds, its `ensures` does
+-- what is known of a value that the function returned: where its contract's `requires` holds, its `ensures` does. What was passed by
+-- value, and what was lent by `&`, is at the exit what it was at the entry
 abbrev pub FreshReturns : Meter → Type 0
 FreshReturns m = fresh-reads.Asked tt tt → fresh-reads.Learnt tt tt m tt
 

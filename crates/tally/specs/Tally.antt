@@ -66,6 +66,7 @@ freshTally = replicate 16 freshStreamTally
 abbrev pub tallyAt : Tally → ℕ → StreamTally
 tallyAt t k = getD t k freshStreamTally
 
+-- the conditions 13 to 18 over what the tally keeps, written apart from those of the meter
 -- 13: stream above 15
 abbrev pub above15 : ℕ → Bool
 above15 k = ltb 15 k

@@ -17,7 +17,7 @@ use Rattle.meter.specs.declared.Meter.{Meter}
 use Rattle.meter.specs.State.{streamAt, withStream}
 use Rattle.meter.specs.Calls.{analysed}
 use Rattle.meter.proofs.Orders.{analysis-above}
-use Rattle.meter.proofs.Outcomes.{gives-refusal, gives-answer}
+use Rattle.meter.proofs.Outcomes.{gives-refusal, gives-answer, written}
 use Rattle.meter.proofs.Analyses.{analysed-is, record-head, record-refused, record-accepted}
 use Rattle.meter.proofs.analysis.Statement.{statement}
 use Rattle.meter.proofs.analysis.Tie as tie
@@ -97,7 +97,7 @@ returns c =
     (λ x.
     let e = is-accepted s (x .1 .ensures) (x .3 .given .1) in
     gives-answer new (m s) v (x .13 ∙ record-accepted (m s) (k s) (bs s) (x .0 .taken) _ e (x .8 .ensures) (x .9 .ensures)) (omega (arith, x .13, x .10 .taken))
-    (x .12 ∙ ap (withStream (m s) (k s)) (analysed-is old _ (bs s) e)))
+    (written (m s) (k s) (x .12) (omega arith) (analysed-is old _ (bs s) e)))
     (⊎-elim
     (λ x.
     let e = is-accepted s (x .1 .ensures) (x .3 .given .1) in

@@ -13,7 +13,7 @@ use Rattle.meter.specs.State.{SoundStream, streamAt, withStream}
 use Rattle.meter.specs.Conditions.{volumeAbove, noAnalysis, volumeOrder, meteringOrder}
 use Rattle.meter.specs.Calls.{metered}
 use Rattle.meter.proofs.Orders.{metering-above, metering-number-is, clear-metering}
-use Rattle.meter.proofs.Outcomes.{gives-refusal, gives-answer}
+use Rattle.meter.proofs.Outcomes.{gives-refusal, gives-answer, written}
 use Rattle.meter.proofs.metering.Statement.{statement}
 use Rattle.meter.proofs.metering.Tie as tie
 
@@ -78,7 +78,7 @@ returns c =
     let v = c .verdict-of .ensures in
     let new = withStream (m s) (k s) (metered (stream s) (w s)) in
     ⊎-elim
-    (λ x. gives-answer new (m s) v (x .8 ∙ found s (x .0 .taken) (x .3 .ensures) (x .4 .ensures)) (omega arith) (x .7 ∙ ap (withStream (m s) (k s)) (x .6 .ensures)))
+    (λ x. gives-answer new (m s) v (x .8 ∙ found s (x .0 .taken) (x .3 .ensures) (x .4 .ensures)) (omega arith) (written (m s) (k s) (x .7) (omega arith) (x .6 .ensures)))
     (⊎-elim
     (λ x. gives-refusal new (m s) v (x .7 ∙ found s (x .0 .taken) (x .3 .ensures) (x .4 .ensures)) (λ z. omega arith) (x .6))
     (λ x. gives-refusal new (m s) v (x .2 ∙ metering-above (k s) (w s) (stream s) (x .0 .left)) (λ z. omega (arith, x .2)) (x .1)))
