@@ -26,7 +26,8 @@ pub record Call : Type 0 where
   pub stream : ℕ
   pub ask : Ask
 
--- what an accepted call answers: nothing more; the volume, whole MJ and rest in mJ; the mean
+-- what an accepted call gives: an analysis or a metering only that it is done; totals the volume, whole MJ and rest in mJ; the mean a
+-- number of J/m³
 pub data Given : Type 0 where
   done : Given
   totalsAre : ℕ → ℕ → ℕ → Given
@@ -63,11 +64,11 @@ Tally = List StreamTally
 abbrev pub freshTally : Tally
 freshTally = replicate 16 freshStreamTally
 
+-- what is kept for the stream k
 abbrev pub tallyAt : Tally → ℕ → StreamTally
 tallyAt t k = getD t k freshStreamTally
 
--- the conditions 13 to 18 over what the tally keeps, written apart from those of the meter
--- 13: stream above 15
+-- the conditions 13 to 18 over what the tally keeps, written apart from those of the meter. 13: stream above 15
 abbrev pub above15 : ℕ → Bool
 above15 k = ltb 15 k
 
@@ -101,7 +102,8 @@ orderOf k (metering v) s = (13, above15 k) ∷ (15, largeVolume v) ∷ (16, noRe
 orderOf k totals s = (13, above15 k) ∷ []
 orderOf k mean s = (13, above15 k) ∷ (18, noVolume (s .volume)) ∷ []
 
--- an accepted volume v: V grows by v, E by v × Hs, X by v × the unrounded Hs, both of the record in force
+-- an accepted volume v: V grows by v, E by v × Hs, X by v × the unrounded Hs, both of the record in force; with no record, 16 has
+-- refused it
 abbrev pub meteredBy : Option (List ℕ) → ℕ → StreamTally → StreamTally
 meteredBy none v s = s
 meteredBy (some bs) v s =
