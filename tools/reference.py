@@ -180,15 +180,15 @@ class Meter:
 K2 = (" K2", ((15, 15), methane_and()))
 AT_0 = (" 0/0", ((0, 0), methane_and()))
 NITROGEN = (" nitrogen 300,000", ((15, 15), methane_and((52, 300000))))
-# lists of calls, each from a fresh meter: a volume is metered, a pair is a title and a record, `read` is both readings, and `fill`
-# meters 99,999 times 10,000,000 dm³ and prints nothing
+# lists of calls, each from a fresh meter: a stream, and what is asked of it. A number is a volume to meter, a title with a record is an
+# analysis, `read` is both readings, and `fill` meters 99,999 times 10,000,000 dm³ and prints nothing
 CALLS = [
     [(0, 1000), (0, K2), (0, 1000), (0, "read")],
     [(16, (" no record", 1)), (16, 10000001), (2**64 - 1, "read")],
     [(15, 2**64 - 1), (15, 10000000), (15, K2), (15, 10000001), (15, 0), (15, "read"), (15, 10000000), (15, "read"), (14, "read")],
     [(3, K2), (3, AT_0), (3, (" 0/0, methane 999,899", 9)), (4, AT_0), (3, 27), (4, 27), (3, "read"), (4, "read")],
     [(7, K2), (7, 26), (7, "read"), (7, NITROGEN), (7, 1), (7, "read")],
-    [(9, K2), (9, "fill"), (9, "read"), (9, 10000000), (9, 9999999), (9, 1), (9, 0), (9, "read")],
+    [(9, K2), (9, "fill"), (9, "read"), (9, 10000000), (9, 9999999), (9, 1), (9, 10000001), (9, 0), (9, "read")],
 ]
 
 

@@ -44,7 +44,7 @@ pairOrder fourteen = (14, fourteen) ∷ []
 abbrev pub volumeOrder : Bool → Bool → Bool → Order
 volumeOrder fifteen sixteen seventeen = (15, fifteen) ∷ (16, sixteen) ∷ (17, seventeen) ∷ []
 
--- the order of each call on the stream k, which is s
+-- the order of each call on the stream k; s is that stream
 abbrev pub analysisOrder : ℕ → List ℕ → Stream → Order
 analysisOrder k bs s = (13, streamAbove k) ∷ recordOrder bs ++ pairOrder (pairDiffers (s .analysis) (combustionIn bs) (meteringIn bs))
 

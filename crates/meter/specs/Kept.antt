@@ -15,7 +15,7 @@ use Rattle.meter.specs.Calls.{analysisOf, meteringOf}
 abbrev pub FreshIsSound : Type 0
 FreshIsSound = Sound freshMeter
 
--- the meter that the contract of the call promises, accepted or refused
+-- `after` is the meter that the call's contract promises, whether the call is accepted or refused
 abbrev pub AnalysisKeeps : Type 0
 AnalysisKeeps = (m : Meter) (k : ℕ) (bs : List ℕ) (v : Verdict) (after : Meter) → Gives (analysisOf m k bs) m v after → Sound m → Sound after
 

@@ -17,7 +17,7 @@ freshStream = record { analysis = Nothing; volume = 0; energy = record { whole =
 abbrev pub freshMeter : Meter
 freshMeter = record { streams = replicate 16 freshStream }
 
--- the stream k of a meter
+-- the stream k of a meter, and a fresh one above 15, where 13 has refused the call
 abbrev pub streamAt : Meter → ℕ → Stream
 streamAt m k = getD (m .streams) k freshStream
 

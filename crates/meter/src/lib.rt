@@ -1,6 +1,6 @@
-// The meter of document 01: sixteen streams, each with the analysis in force, a volume total and an energy register. Every call, with
-// any arguments, gets its answer or the one number of its refusal. A call that may change the meter takes it by value and gives it
-// back, as it was where the call is refused.
+// The meter of document 01: sixteen streams, each with the analysis in force, a volume total and an energy register. Every call on a
+// meter as made or as its calls left it, with any stream, record and volume, gets its answer or the one number of its refusal. A call
+// that may change the meter takes it by value and gives it back, as it was where the call is refused.
 use properties::Answer;
 use properties::Properties;
 use properties::quantities::CalorificValue;
@@ -33,7 +33,7 @@ pub struct Register {
     pub rest: u64,
 }
 
-// The volume total is in dm³.
+// A stream: the analysis in force, the volume total in dm³, and the energy.
 pub struct Stream {
     analysis: InForce,
     volume: u64,
@@ -44,7 +44,7 @@ pub struct Meter {
     streams: [Stream; 16],
 }
 
-// The meter after a call that may change it.
+// What a call that may change the meter gives back: the meter, and whether the call was accepted.
 pub struct Changed {
     pub meter: Meter,
     pub verdict: Verdict,

@@ -1,5 +1,6 @@
 -- One call on a meter and on the tally beside it: the answers are the same, and what they leave is alike.
 use mathlib.Core.Path.{_≡_, refl, sym, ap, subst, _∙_}
+use mathlib.Core.Bool.{false, false≢true}
 use Prim.Native.Nat.{ℕ, zero, suc, _<_}
 use native.Mathlib.Decide.{ℕ-discrete}
 use native.Mathlib.Omega.{arith}
@@ -22,7 +23,7 @@ use Rattle.meter.proofs.Orders.{clear-analysis, clear-metering}
 use Rattle.meter.proofs.Kept.{analysis-keeps, metering-keeps, analysis-leaves-others, metering-leaves-others}
 use Rattle.tally.specs.Tally.{Ask, analysis, metering, totals, mean, Call, Given, done, totalsAre, meanIs, Answer, StreamTally, freshStreamTally, Tally, tallyAt, leftBy, givenBy, numberFor, answerTo, tallyAfter}
 use Rattle.tally.specs.Run.{changeAnswer, Step, by-analysis, by-metering, by-totals, by-mean}
-use Rattle.tally.specs.Demand.{Asked, Leaves, EveryStepLeaves}
+use Rattle.tally.specs.Demand.{isReading, Asked, Leaves, EveryStepLeaves}
 use Rattle.tally.proofs.Alike.{Alike, analysis-order, metering-order, mean-order, analysis-alike, metering-alike, totals-alike, mean-alike}
 
 -- a meter beside a tally
@@ -113,11 +114,12 @@ module _ (m : Meter) (t : Tally) (h : Linked m t) where
       reads meanIs k mean (meanMeaning r) (firstOf (meanOrder k s)) (meanIn s) (ap firstOf (mean-order s l (h .each k) k)) (got (h .sound)) (mean-alike s l (h .each k)) refl
 
 -- a call that may change the meter
-changed-leaves : (n : ℕ) (m : Meter) (c : Call) (new : Meter) (v : Verdict) (after : Meter) → Gives (decided n new) m v after →
+changed-leaves : (n : ℕ) (m : Meter) (c : Call) (new : Meter) (v : Verdict) (after : Meter) → isReading (c .ask) ≡ false → Gives (decided n new) m v after →
     ((j : ℕ) → (j ≡ c .stream → ⊥) → streamAt after j ≡ streamAt m j) → Leaves m c (changeAnswer v) after
-changed-leaves n m c new v after gives others =
+changed-leaves n m c new v after changing gives others =
     record {
       refusal = λ number e. gives .stands ∙ refused-keeps n (sym (gives .means) ∙ meaning-of v done after ∙ ap (mapped (λ (x : Given). after)) e);
+      reading = λ e. elim (false≢true (sym changing ∙ e)) [ ];
       others = others;
     }
   where
@@ -128,9 +130,9 @@ changed-leaves n m c new v after gives others =
 pub every-step-leaves : EveryStepLeaves
 every-step-leaves m m₁ c a ask (by-analysis κs k b r got) =
     let given = got (ask .analysis κs k b) in
-    changed-leaves (firstOf (analysisOrder k (now b) (streamAt m k))) m _ (withStream m k (analysed (streamAt m k) (now b))) (r .verdict) (r .meter) given (analysis-leaves-others m k (now b) (r .verdict) (r .meter) given)
+    changed-leaves (firstOf (analysisOrder k (now b) (streamAt m k))) m _ (withStream m k (analysed (streamAt m k) (now b))) (r .verdict) (r .meter) refl given (analysis-leaves-others m k (now b) (r .verdict) (r .meter) given)
 every-step-leaves m m₁ c a ask (by-metering k v r got) =
     let given = got (ask .metering k v) in
-    changed-leaves (firstOf (meteringOrder k v (streamAt m k))) m _ (withStream m k (metered (streamAt m k) v)) (r .verdict) (r .meter) given (metering-leaves-others m k v (r .verdict) (r .meter) given)
-every-step-leaves m m₁ c a ask (by-totals k r got) = record { refusal = λ n e. refl; others = λ j e. refl }
-every-step-leaves m m₁ c a ask (by-mean k r got) = record { refusal = λ n e. refl; others = λ j e. refl }
+    changed-leaves (firstOf (meteringOrder k v (streamAt m k))) m _ (withStream m k (metered (streamAt m k) v)) (r .verdict) (r .meter) refl given (metering-leaves-others m k v (r .verdict) (r .meter) given)
+every-step-leaves m m₁ c a ask (by-totals k r got) = record { refusal = λ n e. refl; reading = λ e. refl; others = λ j e. refl }
+every-step-leaves m m₁ c a ask (by-mean k r got) = record { refusal = λ n e. refl; reading = λ e. refl; others = λ j e. refl }

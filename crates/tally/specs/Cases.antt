@@ -32,7 +32,7 @@ pub data Case : Type 0 where
   -- a record and its six properties, and a record and its Z and Hs
   six : List ℕ → Six → Case
   two : List ℕ → ℕ × ℕ → Case
-  -- a record, read and written, with the number that refuses it
+  -- a record, read and written, with the number that refuses it, 0 where it is accepted
   number : on-record.Case → Case
   -- calls from a fresh meter, each with its answer
   calls : List (Call × Answer) → Case

@@ -1,7 +1,7 @@
 -- Demand 3: one claim about a whole list of calls from a fresh meter, their answers, and the meter after them.
 use mathlib.Core.Path.{_≡_}
 use mathlib.Core.List.{List, [], _∷_}
-use mathlib.Core.Bool.{cond}
+use mathlib.Core.Bool.{Bool, true, false, cond}
 use mathlib.Core.Option.{Option, none, some}
 use Prim.Native.Nat.{ℕ, _+_, _*_, _<_}
 use contract.Lifetimes.{Lfts}
@@ -87,12 +87,20 @@ pub record Demand3 (cs : List Call) (rs : List Answer) (m : Meter) : Type 0 wher
   pub each : (k : ℕ) → k < 16 → StreamDemand k (tallyAt (tallied freshTally cs) k) cs rs m
   -- each accepted analysis of the list
   pub analyses : (bs : List ℕ) → AcceptedIn bs cs rs → AnalysisShown bs
-  -- what the contracts require holds after the list and, since a list may end anywhere, before each of its calls
+  -- what the contracts require holds after the list; since the claim is for every list, it holds before each of its calls too
   pub asked : Asked m
+
+-- totals and mean are readings
+abbrev pub isReading : Ask → Bool
+isReading (analysis bs) = false
+isReading (metering v) = false
+isReading totals = true
+isReading mean = true
 
 -- one call: a refused one and a reading leave the meter as it was, and every stream but the named one stays as it was
 pub record Leaves (m : Meter) (c : Call) (a : Answer) (m₁ : Meter) : Type 0 where
   pub refusal : (n : ℕ) → a ≡ refused n → m₁ ≡ m
+  pub reading : isReading (c .ask) ≡ true → m₁ ≡ m
   pub others : (j : ℕ) → (j ≡ c .stream → ⊥) → streamAt m₁ j ≡ streamAt m j
 
 abbrev pub EveryStepLeaves : Type 0

@@ -1,5 +1,5 @@
--- The term `tally` of document 01: what a list of calls comes to, from the calls and their arguments alone. It knows no meter, and no
--- answer of one.
+-- The term `tally` of document 01: what a list of calls comes to, from the calls and their arguments alone. It uses nothing of the meter
+-- and no answer of one.
 use mathlib.Core.Bool.{Bool, true, false, not, _||_}
 use mathlib.Core.List.{List, [], _∷_, _++_}
 use mathlib.Core.Option.{Option, none, some}
@@ -64,7 +64,7 @@ Tally = List StreamTally
 abbrev pub freshTally : Tally
 freshTally = replicate 16 freshStreamTally
 
--- what is kept for the stream k
+-- what is kept for the stream k, and a fresh one above 15, where 13 has refused the call
 abbrev pub tallyAt : Tally → ℕ → StreamTally
 tallyAt t k = getD t k freshStreamTally
 

@@ -1,5 +1,5 @@
-// Runs the compiled calls of the meter: K9 of document 01, each refusal from 13 to 18 and its place in the order, the carry from the
-// rest to the whole MJ, two gases on one stream, and a stream that is full; and prints what comes back.
+// Runs the compiled calls of the meter: K9 of document 01, each refusal from 13 to 18, some where a later condition of the order holds
+// too, the carry from the rest to the whole MJ, two gases on one stream, and a stream that is full; and prints what comes back.
 use libc::STDOUT_FILENO;
 use meter::MeanAnswer;
 use meter::Meter;
@@ -210,7 +210,7 @@ fn fill(m: Meter, stream: usize) -> Meter
     filled
 }
 
-// The greatest total, and one dm³ more.
+// The greatest total, and one dm³ more; 15 before 17.
 fn full_stream() {
     let m0 = fresh();
     let m1 = k2(m0, 9);
@@ -219,8 +219,9 @@ fn full_stream() {
     let m3 = metering(m2, 9, 10000000);
     let m4 = metering(m3, 9, 9999999);
     let m5 = metering(m4, 9, 1);
-    let m6 = metering(m5, 9, 0);
-    readings(m6, 9);
+    let m6 = metering(m5, 9, 10000001);
+    let m7 = metering(m6, 9, 0);
+    readings(m7, 9);
 }
 
 fn main() {
