@@ -3,9 +3,10 @@ use mathlib.Core.Path.{_≡_, refl}
 use mathlib.Core.List.{[], _∷_}
 use Prim.Native.Nat.{ℕ}
 use Rattle.records.specs.Order.{Outcome, refused, accepted, firstOf, decided, otherwise}
-use Rattle.records.specs.Answers.{verdictOf}
+use Rattle.records.specs.Answers.{Gives, verdictOf}
 use Rattle.records.proofs.OrderLaws.{gives}
 use Rattle.meter.specs.declared.Meter.{Meter}
+use Rattle.meter.specs.declared.Changed.{Changed}
 use Rattle.meter.specs.declared.StreamTotals.{StreamTotals}
 use Rattle.meter.specs.declared.TotalsAnswer.{TotalsAnswer}
 use Rattle.meter.specs.declared.TotalsAnswer.the-variants as totals-answer
@@ -41,6 +42,13 @@ unfolding mean-with
 mean-means (refused n) = refl
 mean-means (accepted x) = refl
 
+-- what a call with the number n returns, where it would leave the meter new
+abbrev changed : ℕ → Meter → Meter → Changed
+changed n m new = record { meter = otherwise m (decided n new); verdict = verdictOf n }
+
+changed-gives : (n : ℕ) (m new : Meter) → Gives (decided n new) m (changed n m new .verdict) (changed n m new .meter)
+changed-gives n m new = gives n new m (otherwise m (decided n new)) (verdictOf n) refl refl
+
 record HasStep (m : Meter) (c : Call) : Type 0 where
   pub answer : Answer
   pub meter : Meter
@@ -50,23 +58,11 @@ has-step : (m : Meter) (k : ℕ) (ask : Ask) → HasStep m (record { stream = k;
 has-step m k (analysis bs) =
     let n = firstOf (analysisOrder k bs (streamAt m k)) in
     let new = withStream m k (analysed (streamAt m k) bs) in
-    record {
-      answer = _;
-      meter = _;
-      step =
-          by-analysis ([], tt) k (record { ptr = (0, 0); name = 0; now = bs }) (record { meter = otherwise m (decided n new); verdict = verdictOf n })
-          (λ p. gives n new m (otherwise m (decided n new)) (verdictOf n) refl refl);
-    }
+    record { answer = _; meter = _; step = by-analysis ([], tt) k (record { ptr = (0, 0); name = 0; now = bs }) (changed n m new) (λ p. changed-gives n m new) }
 has-step m k (metering v) =
     let n = firstOf (meteringOrder k v (streamAt m k)) in
     let new = withStream m k (metered (streamAt m k) v) in
-    record {
-      answer = _;
-      meter = _;
-      step =
-          by-metering k v (record { meter = otherwise m (decided n new); verdict = verdictOf n })
-          (λ p. gives n new m (otherwise m (decided n new)) (verdictOf n) refl refl);
-    }
+    record { answer = _; meter = _; step = by-metering k v (changed n m new) (λ p. changed-gives n m new) }
 has-step m k totals = record { answer = _; meter = _; step = by-totals k (totals-with (totalsOf m k)) (λ p. totals-means (totalsOf m k)) }
 has-step m k mean = record { answer = _; meter = _; step = by-mean k (mean-with (meanOf m k)) (λ p. mean-means (meanOf m k)) }
 
