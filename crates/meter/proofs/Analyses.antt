@@ -12,23 +12,18 @@ use Rattle.properties.specs.declared.Properties.{Properties}
 use Rattle.properties.specs.Chain.{Six, propertiesOf}
 use Rattle.properties.specs.Answers.{numbers, quantities}
 use Rattle.properties.proofs.Outcomes.{number-of-refused, clear-of-accepted}
-use Rattle.meter.specs.declared.Stream.{Stream}
+use Rattle.meter.specs.declared.Gas.{Gas}
 use Rattle.meter.specs.declared.Meter.{Meter}
-use Rattle.meter.specs.declared.InForce.the-variants.{Known}
 use Rattle.meter.specs.State.{streamAt}
 use Rattle.meter.specs.Conditions.{pairDiffers, pairOrder, analysisOrder}
-use Rattle.meter.specs.Calls.{analysed}
+use Rattle.meter.specs.Calls.{gasOf}
 use Rattle.meter.proofs.Orders.{not-above}
 
--- the stream with the properties that were calculated
-pub analysed-is : (s : Stream) (p : Properties) (bs : List ℕ) → accepted (numbers p) ≡ propertiesOf bs →
-    _≡_ {A = Stream}
-    (record { analysis = Known (record { combustion = combustionIn bs; metering = meteringIn bs; properties = p }); volume = s .volume; energy = s .energy })
-    (analysed s bs)
-analysed-is s p bs e =
-    ap
-    (λ (q : Six).
-    record { analysis = Known (record { combustion = combustionIn bs; metering = meteringIn bs; properties = quantities q }); volume = s .volume; energy = s .energy })
+-- the gas with the properties that were calculated
+pub gas-is : (p : Properties) (bs : List ℕ) → accepted (numbers p) ≡ propertiesOf bs →
+    _≡_ {A = Gas} (record { combustion = combustionIn bs; metering = meteringIn bs; properties = p }) (gasOf bs)
+gas-is p bs e =
+    ap (λ (q : Six). record { combustion = combustionIn bs; metering = meteringIn bs; properties = quantities q })
     (sym (clear-of-accepted bs (numbers p) e .1))
 
 -- the head of an accepted record

@@ -1,16 +1,16 @@
--- The mean of a sound stream: no more than the ceiling of a calorific value, and within reach of the division of two words.
-use Prim.Native.Nat.{_≤_, _<_}
+-- The mean of a sound register: no more than the ceiling of a calorific value, and within reach of the division of two words.
+use Prim.Native.Nat.{ℕ, _≤_, _<_}
 use native.Mathlib.Omega.{arith}
 use Rattle.rounding.specs.Wide.{Wide}
 use Rattle.rounding.proofs.NearLaws.{near-half, at-most}
 use Rattle.properties.specs.Quantities.{calorificBound}
-use Rattle.meter.specs.declared.Stream.{Stream}
-use Rattle.meter.specs.State.{SoundStream, amountIn, perMJ}
+use Rattle.meter.specs.declared.Register.{Register}
+use Rattle.meter.specs.State.{SoundRegister, amountIn, perMJ}
 use Rattle.meter.specs.Calls.{meanIn}
 
-module _ (s : Stream) (sound : SoundStream s) (some : 0 < s .volume) where
-  pub mean-bounded : meanIn s ≤ calorificBound
-  mean-bounded = at-most (near-half (amountIn perMJ (s .energy)) (s .volume) some) (omega (arith, sound .energy .amount))
+module _ (e : Register) (v : ℕ) (sound : SoundRegister perMJ calorificBound v e) (total : v ≤ 999999999999) (some : 0 < v) where
+  pub mean-bounded : meanIn e v ≤ calorificBound
+  mean-bounded = at-most (near-half (amountIn perMJ e) v some) (omega (arith, sound .amount))
 
-  pub mean-wide : Wide (s .energy .whole) (s .energy .rest) (s .volume)
-  mean-wide = record { proper = some; divisor = omega (arith, sound .volume); below = sound .energy .rest; fits = omega (arith, mean-bounded) }
+  pub mean-wide : Wide (e .whole) (e .rest) v
+  mean-wide = record { proper = some; divisor = omega (arith, total); below = sound .rest; fits = omega (arith, mean-bounded) }

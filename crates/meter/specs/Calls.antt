@@ -19,15 +19,18 @@ use Rattle.meter.specs.Conditions.{analysisOrder, meteringOrder, totalsO
 abbrev pub gasOf : List ℕ → Gas
 gasOf bs = record { combustion = combustionIn bs; metering = meteringIn bs; properties = quantities (sixOf (contentsIn bs)) }
 
--- a stream with another analysis in force
+-- a stream with another gas in force, and with that of a record
+abbrev pub withGas : Stream → Gas → Stream
+withGas s gas = record { analysis = Known gas; volume = s .volume; energy = s .energy }
+
 abbrev pub analysed : Stream → List ℕ → Stream
-analysed s bs = record { analysis = Known (gasOf bs); volume = s .volume; energy = s .energy }
+analysed s bs = withGas s (gasOf bs)
 
 -- a register with n more, u of which make one whole
 abbrev pub booked : ℕ → Register → ℕ → Register
 booked u e n = record { whole = (amountIn u e + n) / u; rest = (amountIn u e + n) % u }
 
--- a stream with v dm³ more, and v × Hs mJ more
+-- a stream with v dm³ more, and v × Hs mJ more; with no analysis, 16 has refused the call
 abbrev pub metered : Stream → ℕ → Stream
 metered s v = record { analysis = s .analysis; volume = s .volume + v; energy = booked perMJ (s .energy) (v * hsOf (s .analysis)) }
 
@@ -47,8 +50,8 @@ abbrev pub totalsOf : Meter → ℕ → Outcome StreamTotals
 totalsOf m k = decided (firstOf (totalsOrder k)) (totalsIn (streamAt m k))
 
 -- the reading of the mean, in J/m³: near(energy in mJ / volume in dm³)
-abbrev pub meanIn : Stream → ℕ
-meanIn s = near (amountIn perMJ (s .energy)) (s .volume)
+abbrev pub meanIn : Register → ℕ → ℕ
+meanIn e v = near (amountIn perMJ e) v
 
 abbrev pub meanOf : Meter → ℕ → Outcome ℕ
-meanOf m k = decided (firstOf (meanOrder k (streamAt m k))) (meanIn (streamAt m k))
+meanOf m k = decided (firstOf (meanOrder k (streamAt m k))) (meanIn (streamAt m k .energy) (streamAt m k .volume))

@@ -37,12 +37,15 @@ totalPasses total v = ltb 999999999999 (total + v)
 abbrev pub totalZero : ℕ → Bool
 totalZero total = eqb total 0
 
--- 14, and 15, 16 and 17, from whether each of them holds
+-- 14; 15, 16 and 17; and 18, from whether each of them holds
 abbrev pub pairOrder : Bool → Order
 pairOrder fourteen = (14, fourteen) ∷ []
 
 abbrev pub volumeOrder : Bool → Bool → Bool → Order
 volumeOrder fifteen sixteen seventeen = (15, fifteen) ∷ (16, sixteen) ∷ (17, seventeen) ∷ []
+
+abbrev pub zeroOrder : Bool → Order
+zeroOrder eighteen = (18, eighteen) ∷ []
 
 -- the order of each call on the stream k; s is that stream
 abbrev pub analysisOrder : ℕ → List ℕ → Stream → Order
@@ -55,7 +58,7 @@ abbrev pub totalsOrder : ℕ → Order
 totalsOrder k = (13, streamAbove k) ∷ []
 
 abbrev pub meanOrder : ℕ → Stream → Order
-meanOrder k s = (13, streamAbove k) ∷ (18, totalZero (s .volume)) ∷ []
+meanOrder k s = (13, streamAbove k) ∷ zeroOrder (totalZero (s .volume))
 
 -- analysis tries 13, 1 to 12, 14; metering 13, 15, 16, 17; totals 13; mean 13, 18
 abbrev pub AnalysisNumbers : Type 0

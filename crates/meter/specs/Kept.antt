@@ -1,5 +1,5 @@
 -- What is shown of every meter. `Sound`, the one thing that a contract asks of a meter, holds of a meter as made, and every call that
--- may change the meter keeps it; a reading leaves the meter as it was.
+-- may change the meter keeps it.
 use mathlib.Core.Path.{_≡_}
 use mathlib.Core.Bool.{false}
 use mathlib.Core.List.{List}

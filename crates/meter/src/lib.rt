@@ -6,12 +6,13 @@ use properties::Properties;
 use properties::quantities::CalorificValue;
 use records::Verdict;
 ghost use mathlib.Core.Path.{_≡_};
-ghost use Prim.Native.Nat.{_+_, _^_, _≤_, _<_};
-ghost use Rattle.records.specs.Order.{firstOf};
+ghost use Prim.Native.Nat.{_+_, _*_, _^_, _≤_, _<_};
+ghost use Rattle.records.specs.Order.{firstOf, decided};
 ghost use Rattle.records.specs.Answers.{Gives};
-ghost use Rattle.meter.specs.State.{freshMeter, hsOf, perMJ, SoundStream, Sound};
-ghost use Rattle.meter.specs.Conditions.{pairDiffers, noAnalysis, pairOrder, volumeOrder};
-ghost use Rattle.meter.specs.Calls.{booked, metered, analysisOf, meteringOf, totalsOf, meanOf};
+ghost use Rattle.properties.specs.Quantities.{calorificBound};
+ghost use Rattle.meter.specs.State.{freshMeter, hsOf, perMJ, SoundRegister, SoundStream, Sound};
+ghost use Rattle.meter.specs.Conditions.{pairDiffers, noAnalysis, totalZero, pairOrder, volumeOrder, zeroOrder};
+ghost use Rattle.meter.specs.Calls.{withGas, booked, metered, analysisOf, meteringOf, totalsOf, meanIn, meanOf};
 ghost use Rattle.meter.specs.Answers.{totalsMeaning, meanMeaning};
 
 // The properties of an accepted record, and its pair of temperatures in °C.
@@ -99,6 +100,18 @@ fn pair_number(fourteen: bool) -> u8
     0
 }
 
+// The stream with a gas in force.
+fn analysed(before: Stream, gas: Gas) -> Stream
+    ensures { λ r. ⌜ r ≡ withGas before gas ⌝ }
+{
+    let energy = before.energy;
+    Stream {
+        analysis: InForce::Known(gas),
+        volume: before.volume,
+        energy,
+    }
+}
+
 // The properties of a record come into force on a stream.
 pub fn analysis(mut meter: Meter, stream: usize, bytes: &[u8]) -> Changed
     ensures { λ r. ⌜ Gives (analysisOf meter stream (now (bytes .entry))) meter (r .verdict) (r .meter) ⌝ }
@@ -116,17 +129,12 @@ pub fn analysis(mut meter: Meter, stream: usize, bytes: &[u8]) -> Changed
                 let metering = bytes[6];
                 number = pair_number(pair_differs(earlier, combustion, metering));
                 if number == 0 {
-                    let volume = before.volume;
-                    let energy = before.energy;
-                    meter.streams[stream] = Stream {
-                        analysis: InForce::Known(Gas {
-                            combustion,
-                            metering,
-                            properties,
-                        }),
-                        volume,
-                        energy,
+                    let gas = Gas {
+                        combustion,
+                        metering,
+                        properties,
                     };
+                    meter.streams[stream] = analysed(before, gas);
                 }
             }
         }
@@ -173,12 +181,13 @@ fn volume_number(fifteen: bool, sixteen: bool, seventeen: bool) -> u8
     0
 }
 
-// The register with n mJ more.
-fn booked(energy: Register, n: u64) -> Register
-    requires { ⌜ (energy .rest < perMJ) × (energy .whole < 2 ^ 63) × (n < 2 ^ 63) ⌝ }
-    ensures { λ r. ⌜ r ≡ booked perMJ energy n ⌝ }
+// The register with volume × heat in mJ more.
+fn booked(energy: Register, volume: u64, heat: u64) -> Register
+    requires { ⌜ (energy .rest < perMJ) × (energy .whole < 2 ^ 63) ⌝ }
+    requires { ⌜ (volume ≤ 10000000) × (heat ≤ calorificBound) ⌝ }
+    ensures { λ r. ⌜ r ≡ booked perMJ energy (volume * heat) ⌝ }
 {
-    let rest = energy.rest + n;
+    let rest = energy.rest + volume * heat;
     Register {
         whole: energy.whole + rest / 1000000000,
         rest: rest % 1000000000,
@@ -192,8 +201,7 @@ fn metered(before: Stream, volume: u64) -> Stream
     ensures { λ r. ⌜ r ≡ metered before volume ⌝ }
 {
     let analysis = before.analysis;
-    let register = before.energy;
-    let energy = booked(register, volume * hs_in_force(analysis));
+    let energy = booked(before.energy, volume, hs_in_force(analysis));
     Stream {
         analysis,
         volume: before.volume + volume,
@@ -235,6 +243,21 @@ pub fn totals(meter: Meter, stream: usize) -> TotalsAnswer
     TotalsAnswer::Accepted(StreamTotals { volume, energy })
 }
 
+// The mean calorific value of an energy over a volume, in J/m³, or 18.
+fn mean_over(energy: Register, volume: u64) -> MeanAnswer
+    requires { ⌜ SoundRegister perMJ calorificBound volume energy × (volume ≤ 999999999999) ⌝ }
+    ensures { λ r. ⌜ meanMeaning r ≡ decided (firstOf (zeroOrder (totalZero volume))) (meanIn energy volume) ⌝ }
+{
+    if volume == 0 {
+        return MeanAnswer::Refused(18);
+    }
+    MeanAnswer::Accepted(CalorificValue::new(rounding::nearest_wide(
+        energy.whole,
+        energy.rest,
+        volume,
+    )))
+}
+
 // The mean calorific value of what a stream has taken, in J/m³.
 pub fn mean(meter: Meter, stream: usize) -> MeanAnswer
     requires { ⌜ Sound meter ⌝ }
@@ -244,13 +267,5 @@ pub fn mean(meter: Meter, stream: usize) -> MeanAnswer
         return MeanAnswer::Refused(13);
     }
     let s = meter.streams[stream];
-    if s.volume == 0 {
-        return MeanAnswer::Refused(18);
-    }
-    let energy = s.energy;
-    MeanAnswer::Accepted(CalorificValue::new(rounding::nearest_wide(
-        energy.whole,
-        energy.rest,
-        s.volume,
-    )))
+    mean_over(s.energy, s.volume)
 }

@@ -23,10 +23,11 @@ use Rattle.meter.specs.declared.Register.{Register}
 use Rattle.meter.specs.declared.Stream.{Stream}
 use Rattle.meter.specs.State.{hsOf, amountIn, perMJ}
 use Rattle.meter.specs.Conditions.{pairDiffers, noAnalysis, analysisOrder, meteringOrder, meanOrder}
-use Rattle.meter.specs.Calls.{gasOf, analysed, booked, metered, meanIn}
+use Rattle.meter.specs.Calls.{gasOf, analysed, booked, metered, totalsIn, meanIn}
 use Rattle.meter.proofs.Registers.{amount-booked, whole-of, rest-of}
 use Rattle.meter.proofs.Orders.{clear-analysis, clear-metering}
-use Rattle.tally.specs.Tally.{analysis, metering, totals, mean, totalsAre, meanIs, Account, grown, StreamTally, otherPair, noRecord, orderOf, meteredBy, leftBy, givenBy}
+use Rattle.tally.specs.Tally.{analysis, metering, totals, mean, meanIs, Account, grown, StreamTally, otherPair, noRecord, orderOf, meteredBy, leftBy, givenBy}
+use Rattle.tally.specs.Run.{totalsGiven}
 use Rattle.tally.specs.Demand.{SameInForce, nothing, known}
 
 -- the pair of a record in force
@@ -111,8 +112,8 @@ module _ (s : Stream) (l : StreamTally) (h : Alike s l) (k : ℕ) where
 
 -- the same readings
 module _ (s : Stream) (l : StreamTally) (h : Alike s l) where
-  pub totals-alike : totalsAre (s .volume) (s .energy .whole) (s .energy .rest) ≡ givenBy totals l
+  pub totals-alike : totalsGiven (totalsIn s) ≡ givenBy totals l
   totals-alike = cc (h .volume, whole-of perMJ (s .energy) (h .energy .rest), rest-of perMJ (s .energy) (h .energy .rest), h .energy .amount)
 
-  pub mean-alike : meanIs (meanIn s) ≡ givenBy mean l
+  pub mean-alike : meanIs (meanIn (s .energy) (s .volume)) ≡ givenBy mean l
   mean-alike = cc (h .energy .amount, h .volume)

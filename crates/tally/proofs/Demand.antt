@@ -22,7 +22,7 @@ use Rattle.tally.specs.Tally.{analysis, Call, done, Answer, StreamTally,
 use Rattle.tally.specs.Run.{Run, ended, after, by-totals, by-mean}
 use Rattle.tally.specs.Demand.{acceptedVolume, AcceptedIn, here, later, AnalysisShown, nothing, Claim}
 use Rattle.tally.proofs.Alike.{Alike}
-use Rattle.tally.proofs.Steps.{Linked, asked, step}
+use Rattle.tally.proofs.Steps.{Linked, required, step}
 use Rattle.tally.proofs.Volumes.{volume-sum}
 
 -- near(n / v) is within t + 1 of x / v, where n is within t × v of x
@@ -94,5 +94,5 @@ demand3 m₀ m cs rs made ran =
             inForce = a .inForce;
           };
       analyses = λ bs. analyses bs freshTally (r .answers);
-      asked = asked m (r .linked .sound);
+      required = required m (r .linked .sound);
     }

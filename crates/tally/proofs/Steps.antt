@@ -14,16 +14,15 @@ use Rattle.records.specs.Answers.{meaning, Gives}
 use Rattle.records.proofs.OrderLaws.{mapped-decided, decided-refused}
 use Rattle.meter.specs.declared.Stream.{Stream}
 use Rattle.meter.specs.declared.Meter.{Meter}
-use Rattle.meter.specs.declared.StreamTotals.{StreamTotals}
 use Rattle.meter.specs.State.{Sound, freshStream, streamAt, withStream}
 use Rattle.meter.specs.Conditions.{analysisOrder, meteringOrder, totalsOrder, meanOrder}
 use Rattle.meter.specs.Calls.{analysed, metered, totalsIn, meanIn}
 use Rattle.meter.specs.Answers.{totalsMeaning, meanMeaning}
 use Rattle.meter.proofs.Orders.{clear-analysis, clear-metering}
 use Rattle.meter.proofs.Kept.{analysis-keeps, metering-keeps, analysis-leaves-others, metering-leaves-others}
-use Rattle.tally.specs.Tally.{Ask, analysis, metering, totals, mean, Call, Given, done, totalsAre, meanIs, Answer, StreamTally, freshStreamTally, Tally, tallyAt, leftBy, givenBy, numberFor, answerTo, tallyAfter}
-use Rattle.tally.specs.Run.{changeAnswer, Step, by-analysis, by-metering, by-totals, by-mean}
-use Rattle.tally.specs.Demand.{isReading, Asked, Leaves, EveryStepLeaves}
+use Rattle.tally.specs.Tally.{Ask, analysis, metering, totals, mean, Call, Given, done, meanIs, Answer, StreamTally, freshStreamTally, Tally, tallyAt, leftBy, givenBy, numberFor, answerTo, tallyAfter}
+use Rattle.tally.specs.Run.{changeAnswer, totalsGiven, Step, by-analysis, by-metering, by-totals, by-mean}
+use Rattle.tally.specs.Demand.{isReading, Required, Leaves, EveryStepLeaves}
 use Rattle.tally.proofs.Alike.{Alike, analysis-order, metering-order, mean-order, analysis-alike, metering-alike, totals-alike, mean-alike}
 
 -- a meter beside a tally
@@ -33,8 +32,8 @@ pub record Linked (m : Meter) (t : Tally) : Type 0 where
   pub each : (k : ℕ) → Alike (streamAt m k) (tallyAt t k)
 
 -- what holds of every meter is all that the contracts require
-pub asked : (m : Meter) → Sound m → Asked m
-asked m h = record { analysis = λ κs k b. tt; metering = λ k v. h; totals = λ k. tt; mean = λ k. h }
+pub required : (m : Meter) → Sound m → Required m
+required m h = record { analysis = λ κs k b. tt; metering = λ k v. h; totals = λ k. tt; mean = λ k. h }
 
 -- the answer of a call, and what it leaves
 pub record Next (t : Tally) (c : Call) (a : Answer) (m : Meter) : Type 0 where
@@ -106,12 +105,12 @@ module _ (m : Meter) (t : Tally) (h : Linked m t) where
       changes k (metering v) (metered s v) (firstOf (meteringOrder k v s)) (ap firstOf (metering-order s l (h .each k) k v))
       (λ z. (clear-metering k v s z .stream, metering-alike s l (h .each k) k v z)) refl (r .verdict) (r .meter) (got (h .sound)) (metering-keeps m k v (r .verdict) (r .meter) (got (h .sound)) (h .sound))
   step (by-totals k r got) =
-      reads (λ (x : StreamTotals). totalsAre (x .volume) (x .energy .whole) (x .energy .rest)) k totals (totalsMeaning r) (firstOf (totalsOrder k))
+      reads totalsGiven k totals (totalsMeaning r) (firstOf (totalsOrder k))
       (totalsIn (streamAt m k)) refl (got tt) (totals-alike (streamAt m k) (tallyAt t k) (h .each k)) refl
   step (by-mean k r got) =
       let s = streamAt m k in
       let l = tallyAt t k in
-      reads meanIs k mean (meanMeaning r) (firstOf (meanOrder k s)) (meanIn s) (ap firstOf (mean-order s l (h .each k) k)) (got (h .sound)) (mean-alike s l (h .each k)) refl
+      reads meanIs k mean (meanMeaning r) (firstOf (meanOrder k s)) (meanIn (s .energy) (s .volume)) (ap firstOf (mean-order s l (h .each k) k)) (got (h .sound)) (mean-alike s l (h .each k)) refl
 
 -- a call that may change the meter
 changed-leaves : (n : ℕ) (m : Meter) (c : Call) (new : Meter) (v : Verdict) (after : Meter) → isReading (c .ask) ≡ false → Gives (decided n new) m v after →

@@ -74,7 +74,7 @@ pub record StreamDemand (k : ℕ) (s : StreamTally) (cs : List Call) (rs : List 
   pub inForce : SameInForce (streamAt m k .analysis) (s .inForce)
 
 -- what the contracts require of a meter, with any other arguments
-pub record Asked (m : Meter) : Type 0 where
+pub record Required (m : Meter) : Type 0 where
   pub analysis : (κs : Lfts 1) (k : ℕ) (b : RefT (List ℕ)) → AnalysisAsks κs m k b
   pub metering : (k v : ℕ) → MeteringAsks m k v
   pub totals : (k : ℕ) → TotalsAsks m k
@@ -88,7 +88,7 @@ pub record Demand3 (cs : List Call) (rs : List Answer) (m : Meter) : Type 0 wher
   -- each accepted analysis of the list
   pub analyses : (bs : List ℕ) → AcceptedIn bs cs rs → AnalysisShown bs
   -- what the contracts require holds after the list; since the claim is for every list, it holds before each of its calls too
-  pub asked : Asked m
+  pub required : Required m
 
 -- totals and mean are readings
 abbrev pub isReading : Ask → Bool
@@ -104,7 +104,7 @@ pub record Leaves (m : Meter) (c : Call) (a : Answer) (m₁ : Meter) : Type 0 wh
   pub others : (j : ℕ) → (j ≡ c .stream → ⊥) → streamAt m₁ j ≡ streamAt m j
 
 abbrev pub EveryStepLeaves : Type 0
-EveryStepLeaves = (m m₁ : Meter) (c : Call) (a : Answer) → Asked m → Step m c a m₁ → Leaves m c a m₁
+EveryStepLeaves = (m m₁ : Meter) (c : Call) (a : Answer) → Required m → Step m c a m₁ → Leaves m c a m₁
 
 -- the claim
 abbrev pub Claim : Type 0

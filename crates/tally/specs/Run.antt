@@ -18,7 +18,7 @@ use Rattle.meter.proofs.analysis.Reads as analysis-reads
 use Rattle.meter.proofs.metering.Reads as metering-reads
 use Rattle.meter.proofs.totals.Reads as totals-reads
 use Rattle.meter.proofs.mean.Reads as mean-reads
-use Rattle.tally.specs.Tally.{analysis, metering, totals, mean, Call, done, totalsAre, meanIs, Answer}
+use Rattle.tally.specs.Tally.{analysis, metering, totals, mean, Call, Given, done, totalsAre, meanIs, Answer}
 
 -- what the contract of each function requires
 abbrev pub AnalysisAsks : Lfts 1 → Meter → ℕ → RefT (List ℕ) → Type 0
@@ -54,8 +54,11 @@ MeanReturns m k r = MeanAsks m k → mean-reads.Learnt tt (m, (k, tt)) r (m, (k,
 abbrev pub changeAnswer : Verdict → Answer
 changeAnswer v = meaning v done
 
+abbrev pub totalsGiven : StreamTotals → Given
+totalsGiven t = totalsAre (t .volume) (t .energy .whole) (t .energy .rest)
+
 abbrev pub totalsAnswer : TotalsAnswer → Answer
-totalsAnswer r = mapped (λ (t : StreamTotals). totalsAre (t .volume) (t .energy .whole) (t .energy .rest)) (totalsMeaning r)
+totalsAnswer r = mapped totalsGiven (totalsMeaning r)
 
 abbrev pub meanAnswer : MeanAnswer → Answer
 meanAnswer r = mapped meanIs (meanMeaning r)

@@ -15,10 +15,10 @@ use Rattle.properties.specs.Answers.{numbers, meaning}
 use Rattle.properties.proofs.Outcomes.{number-of-refused}
 use Rattle.meter.specs.declared.Meter.{Meter}
 use Rattle.meter.specs.State.{streamAt, withStream}
-use Rattle.meter.specs.Calls.{analysed}
+use Rattle.meter.specs.Calls.{withGas, analysed}
 use Rattle.meter.proofs.Orders.{analysis-above}
 use Rattle.meter.proofs.Outcomes.{gives-refusal, gives-answer, written}
-use Rattle.meter.proofs.Analyses.{analysed-is, record-head, record-refused, record-accepted}
+use Rattle.meter.proofs.Analyses.{gas-is, record-head, record-refused, record-accepted}
 use Rattle.meter.proofs.analysis.Statement.{statement}
 use Rattle.meter.proofs.analysis.Tie as tie
 
@@ -73,8 +73,11 @@ pair-differs-requires c κs = search needs
 pair-number-requires : tie.Need-pair-number-requires
 pair-number-requires c κs = search needs
 
-mul-t27 : tie.Need-mul-t27
-mul-t27 c = search needs
+analysed-requires : tie.Need-analysed-requires
+analysed-requires c κs = search needs
+
+mul-t24 : tie.Need-mul-t24
+mul-t24 c = search needs
 
 element-set-from-meter : tie.Need-element-set-from-meter
 element-set-from-meter c = search needs
@@ -97,7 +100,7 @@ returns c =
     (λ x.
     let e = is-accepted s (x .1 .ensures) (x .3 .given .1) in
     gives-answer new (m s) v (x .13 ∙ record-accepted (m s) (k s) (bs s) (x .0 .taken) _ e (x .8 .ensures) (x .9 .ensures)) (omega (arith, x .13, x .10 .taken))
-    (written (m s) (k s) (x .12) (omega arith) (analysed-is old _ (bs s) e)))
+    (written (m s) (k s) (x .12) (omega arith) (x .11 .ensures ∙ ap (withGas old) (gas-is _ (bs s) e))))
     (⊎-elim
     (λ x.
     let e = is-accepted s (x .1 .ensures) (x .3 .given .1) in
@@ -118,7 +121,8 @@ analysis-spec =
     shared-slice-read-metering
     pair-differs-requires
     pair-number-requires
-    mul-t27
+    analysed-requires
+    mul-t24
     element-set-from-meter
     verdict-of-requires
     returns)

@@ -1,47 +1,43 @@
 -- The volume and its energy.
 use mathlib.Core.Path.{_≡_, sym, ap, subst, _∙_}
 use Prim.Native.Nat.{ℕ, _+_, _*_, _≤_}
-use native.Mathlib.Nat.{mul-le-mul}
 use native.Mathlib.Omega.{arith}
 use borrow.Author.Needs.{needs}
 use Rattle.properties.specs.Quantities.{calorificBound}
 use Rattle.meter.specs.declared.Register.{Register}
 use Rattle.meter.specs.declared.Stream.{Stream}
-use Rattle.meter.specs.State.{hsOf, perMJ}
+use Rattle.meter.specs.State.{perMJ}
 use Rattle.meter.specs.Calls.{booked, metered}
 use Rattle.meter.proofs.metered.Statement.{statement}
 use Rattle.meter.proofs.metered.Tie as tie
 
--- the energy of the volume
-small : (c : tie.After-hs-in-force) → c .before .before .args .volume * c .hs-in-force .result ≤ 10000000 * calorificBound
-small c =
-    let s = c .before .before in
-    mul-le-mul (s .pre .1 .0) (subst (λ (x : ℕ). x ≤ calorificBound) (sym (c .hs-in-force .ensures)) (s .pre .0 .Hs))
+-- a heat below the ceiling
+low : {h x : ℕ} → h ≡ x → x ≤ calorificBound → h ≤ calorificBound
+low e = subst (λ (n : ℕ). n ≤ calorificBound) (sym e)
 
--- the stream with the energy that was booked
-energy-is : (s : Stream) (v h : ℕ) (e : Register) → e ≡ booked perMJ (s .energy) (v * h) → h ≡ hsOf (s .analysis) →
+-- a register fed with v × h
+fed : {e : Register} (before : Register) (v : ℕ) {h x : ℕ} → e ≡ booked perMJ before (v * h) → h ≡ x → e ≡ booked perMJ before (v * x)
+fed before v e heat = e ∙ ap (λ (n : ℕ). booked perMJ before (v * n)) heat
+
+-- the stream with the register that was fed
+stream-is : (s : Stream) (v : ℕ) {e : Register} → e ≡ metered s v .energy →
     _≡_ {A = Stream} (record { analysis = s .analysis; volume = s .volume + v; energy = e }) (metered s v)
-energy-is s v h e energy heat =
-    ap (λ (x : Register). record { analysis = s .analysis; volume = s .volume + v; energy = x }) (energy ∙ ap (λ (x : ℕ). booked perMJ (s .energy) (v * x)) heat)
+stream-is s v p = λ i. record { analysis = s .analysis; volume = s .volume + v; energy = p i }
 
 hs-in-force-requires : tie.Need-hs-in-force-requires
 hs-in-force-requires c κs = search needs
 
-mul-booked : tie.Need-mul-booked
-mul-booked c = omega (arith, small c)
-
 booked-requires : tie.Need-booked-requires
-booked-requires c κs =
-    let s = c .before .before .pre .0 in (s .energy .rest, omega (arith, s .energy .amount, s .volume), omega (arith, small c))
+booked-requires c κs = let p = c .before .pre in ((p .0 .energy .rest, omega (arith, p .0 .energy .amount, p .0 .volume)), (p .1 .0, low (c .hs-in-force .ensures) (p .0 .Hs)))
 
-add-t6 : tie.Need-add-t6
-add-t6 c = search needs
+add-t5 : tie.Need-add-t5
+add-t5 c = search needs
 
 returns : tie.Need-returns
 returns c =
-    let h = c .before .before in
-    let a = h .before .before .args in
-    energy-is (a .before) (a .volume) (h .hs-in-force .result) (c .before .booked .result) (c .before .booked .ensures) (h .hs-in-force .ensures)
+    let b = c .before in
+    let a = b .before .before .args in
+    stream-is (a .before) (a .volume) (fed (a .before .energy) (a .volume) (b .booked .ensures) (b .before .hs-in-force .ensures))
 
 pub metered-spec : {M : Type 1} → statement M
-metered-spec = tie.close (tie.spec hs-in-force-requires mul-booked booked-requires add-t6 returns)
+metered-spec = tie.close (tie.spec hs-in-force-requires booked-requires add-t5 returns)
