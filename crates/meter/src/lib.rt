@@ -187,7 +187,8 @@ fn booked(energy: Register, volume: u64, heat: u64) -> Register
     requires { ⌜ (volume ≤ 10000000) × (heat ≤ calorificBound) ⌝ }
     ensures { λ r. ⌜ r ≡ booked perMJ energy (volume * heat) ⌝ }
 {
-    let rest = energy.rest + volume * heat;
+    let added = volume * heat;
+    let rest = energy.rest + added;
     Register {
         whole: energy.whole + rest / 1000000000,
         rest: rest % 1000000000,
