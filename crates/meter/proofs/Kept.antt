@@ -14,6 +14,7 @@ use Rattle.records.specs.Format.{contentsIn}
 use Rattle.records.specs.Conditions.{recordOrder}
 use Rattle.records.specs.Answers.{Gives}
 use Rattle.records.proofs.Accepted.{acceptable}
+use Rattle.properties.specs.Chain as chain
 use Rattle.properties.specs.Quantities.{calorificBound}
 use Rattle.properties.proofs.Gas.{bounded}
 use Rattle.meter.specs.declared.Stream.{Stream}
@@ -52,7 +53,7 @@ kept : (n : ℕ) (m : Meter) (k : ℕ) (s : Stream) (v : Verdict) (after : Meter
     (n ≡ 0 → (k < 16) × SoundStream s) → Sound after
 kept n m k s v after gives h new = subst Sound (sym (gives .stands)) (otherwise-sound n m k s h new)
 
-hs-bounded : (bs : List ℕ) → firstOf (recordOrder bs) ≡ 0 → Rattle.properties.specs.Chain.Hs (contentsIn bs) ≤ calorificBound
+hs-bounded : (bs : List ℕ) → firstOf (recordOrder bs) ≡ 0 → chain.Hs (contentsIn bs) ≤ calorificBound
 hs-bounded bs clear = bounded (contentsIn bs) (acceptable bs clear) .Hs
 
 pub analysis-keeps : AnalysisKeeps
@@ -77,6 +78,7 @@ metering-keeps m k w v after gives h =
     s : Stream
     s = streamAt m k
 
+-- every other stream after a call that replaces one
 others-stay : (n : ℕ) (m : Meter) (k : ℕ) (s : Stream) (v : Verdict) (after : Meter) → Gives (decided n (withStream m k s)) m v after →
     (j : ℕ) → (j ≡ k → ⊥) → streamAt after j ≡ streamAt m j
 others-stay n m k s v after gives j e = ap (λ (x : Meter). streamAt x j) (gives .stands) ∙ other-stays n m k s j e

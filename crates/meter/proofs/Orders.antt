@@ -11,7 +11,7 @@ use Rattle.records.specs.Format.{combustionIn, meteringIn}
 use Rattle.records.specs.Conditions.{recordOrder}
 use Rattle.records.proofs.OrderLaws.{unmet, clear-first, clear-second}
 use Rattle.meter.specs.declared.Stream.{Stream}
-use Rattle.meter.specs.Conditions.{pairDiffers, volumeAbove, noAnalysis, pairOrder, volumeOrder, analysisOrder, meteringOrder, AnalysisNumbers, MeteringNumbers, TotalsNumbers, MeanNumbers}
+use Rattle.meter.specs.Conditions.{pairDiffers, volumeAbove, noAnalysis, volumeOrder, analysisOrder, meteringOrder, AnalysisNumbers, MeteringNumbers, TotalsNumbers, MeanNumbers}
 
 pub analysis-numbers : AnalysisNumbers
 analysis-numbers k bs s = refl
@@ -48,7 +48,11 @@ pub metering-number-is : (k v : ℕ) (s : Stream) (none : Bool) → k ≤ 15 →
     firstOf (volumeOrder (volumeAbove v) none (ltb (999999999999 - s .volume) v)) ≡ firstOf (meteringOrder k v s)
 metering-number-is k v s none low total is = rw (le-ltb 15 k low, is, passes-room 999999999999 (s .volume) v total)
 
--- an accepted analysis
+-- an accepted analysis: the record's part of the order, from whether 13 and 14 hold
+pub record-clear : (bs : List ℕ) (thirteen fourteen : Bool) → firstOf ((13, thirteen) ∷ recordOrder bs ++ ((14, fourteen) ∷ [])) ≡ 0 → firstOf (recordOrder bs) ≡ 0
+record-clear bs thirteen fourteen h =
+    clear-first (recordOrder bs) ((14, fourteen) ∷ []) tt (clear-second ((13, thirteen) ∷ []) (recordOrder bs ++ ((14, fourteen) ∷ [])) tt h)
+
 pub record ClearAnalysis (k : ℕ) (bs : List ℕ) (s : Stream) : Type 0 where
   pub stream : k < 16
   pub clear : firstOf (recordOrder bs) ≡ 0
@@ -56,12 +60,8 @@ pub record ClearAnalysis (k : ℕ) (bs : List ℕ) (s : Stream) : Type 0 where
 
 pub clear-analysis : (k : ℕ) (bs : List ℕ) (s : Stream) → firstOf (analysisOrder k bs s) ≡ 0 → ClearAnalysis k bs s
 clear-analysis k bs s h =
-    let rest = clear-second ((13, ltb 15 k) ∷ []) (recordOrder bs ++ (pairOrder (pairDiffers (s .analysis) (combustionIn bs) (meteringIn bs)))) tt h in
-    record {
-      stream = omega (arith, ltb-false 15 k (unmet (analysisOrder k bs s) tt h 13));
-      clear = clear-first (recordOrder bs) (pairOrder (pairDiffers (s .analysis) (combustionIn bs) (meteringIn bs))) tt rest;
-      pair = unmet (analysisOrder k bs s) tt h 14;
-    }
+    let free = unmet (analysisOrder k bs s) tt h in
+    record { stream = omega (arith, ltb-false 15 k (free 13)); clear = record-clear bs (ltb 15 k) (pairDiffers (s .analysis) (combustionIn bs) (meteringIn bs)) h; pair = free 14 }
 
 -- an accepted volume
 pub record ClearMetering (k v : ℕ) (s : Stream) : Type 0 where

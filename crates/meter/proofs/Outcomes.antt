@@ -1,4 +1,4 @@
--- What a call that may change a value gives, from the number that its code found, the verdict of that number, and the value that it left.
+-- What a call that may change the meter gives, from the number that its code found, the verdict of that number, and what it wrote.
 use mathlib.Core.Path.{_≡_, sym, ap, _∙_}
 use Prim.Native.Nat.{ℕ}
 use Rattle.records.specs.declared.Verdict.{Verdict}

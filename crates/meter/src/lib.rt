@@ -41,6 +41,7 @@ pub struct Stream {
     energy: Register,
 }
 
+// Sixteen streams, 0 to 15.
 pub struct Meter {
     streams: [Stream; 16],
 }
@@ -51,16 +52,19 @@ pub struct Changed {
     pub verdict: Verdict,
 }
 
+// The totals of a stream: the volume in dm³, and the energy.
 pub struct StreamTotals {
     pub volume: u64,
     pub energy: Register,
 }
 
+// The totals, or document 01's number.
 pub enum TotalsAnswer {
     Accepted(StreamTotals),
     Refused(u8),
 }
 
+// The mean, or document 01's number.
 pub enum MeanAnswer {
     Accepted(CalorificValue),
     Refused(u8),

@@ -7,7 +7,6 @@ use mathlib.Core.Option.{Option, none, some}
 use Prim.Native.Nat.{ℕ, _+_, _*_, _<_}
 use native.Mathlib.Nat.{mod-lt}
 use native.Mathlib.Omega.{arith}
-use Rattle.rounding.specs.Near.{near}
 use Rattle.rounding.specs.Fraction.{Fraction, whole, plus, times, Within}
 use Rattle.rounding.proofs.FractionLaws.{within-plus, within-times}
 use Rattle.records.specs.Order.{firstOf}
@@ -50,13 +49,13 @@ pub record Alike (s : Stream) (l : StreamTally) : Type 0 where
 -- a volume w at a calorific value h, which is x unrounded
 energy-grows : (u v w h : ℕ) (x : Fraction) (e : Register) (a : Account) → 0 < u → Within (whole 2) h x → AlikeEnergy u v e a →
     AlikeEnergy u (v + w) (booked u e (w * h)) (grown w h x a)
-energy-grows u v w h x e a p near alike =
+energy-grows u v w h x e a p heat alike =
     record {
       rest = mod-lt (amountIn u e + w * h) p;
       amount = amount-booked u p e (w * h) ∙ ap (λ (n : ℕ). n + w * h) (alike .amount);
       within =
           subst (λ (t : ℕ). Within (whole t) (a .booked + w * h) (plus (a .exact) (times w x))) (omega arith)
-          (within-plus (2 * v) (w * 2) (a .booked) (w * h) (a .exact) (times w x) (alike .within) (within-times w 2 h x near));
+          (within-plus (2 * v) (w * 2) (a .booked) (w * h) (a .exact) (times w x) (alike .within) (within-times w 2 h x heat));
     }
 
 -- the same conditions

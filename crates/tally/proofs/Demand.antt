@@ -1,6 +1,6 @@
 -- Demand 3, for every list of calls from a fresh meter.
 use mathlib.Core.Path.{_≡_, refl, sym, ap, _∙_}
-use mathlib.Core.List.{List, [], _∷_, _++_}
+use mathlib.Core.List.{List}
 use Prim.Native.Nat.{ℕ, zero, suc, _+_, _*_, _<_}
 use native.Mathlib.Nat.{mul-le-mul-right, mul-pos}
 use native.Mathlib.Omega.{arith}
@@ -9,14 +9,14 @@ use lib.ListN.{getD, drop, replicate}
 use Rattle.rounding.specs.Near.{near}
 use Rattle.rounding.specs.Fraction.{Fraction, whole, dividedBy, Within}
 use Rattle.rounding.proofs.NearLaws.{near-half}
-use Rattle.records.specs.Order.{Order, firstOf, refused, accepted, decided}
+use Rattle.records.specs.Order.{firstOf, refused, accepted, decided}
 use Rattle.records.specs.Format.{combustionIn, meteringIn, contentsIn}
-use Rattle.records.specs.Conditions.{recordOrder}
 use Rattle.records.specs.Calls.{readingOf}
-use Rattle.records.proofs.OrderLaws.{clear-first, clear-second, decided-accepted}
+use Rattle.records.proofs.OrderLaws.{decided-accepted}
 use Rattle.properties.proofs.Gas.{every-accepted-record}
 use Rattle.meter.specs.declared.Meter.{Meter}
 use Rattle.meter.specs.State.{freshStream, freshMeter}
+use Rattle.meter.proofs.Orders.{record-clear}
 use Rattle.meter.proofs.Kept.{fresh-is-sound}
 use Rattle.tally.specs.Tally.{analysis, Call, done, Answer, StreamTally, freshStreamTally, Tally, freshTally, tallyAt, above15, otherPair, orderOf, tallyAfter, answersTo, tallied}
 use Rattle.tally.specs.Run.{Run, ended, after, by-totals, by-mean}
@@ -63,8 +63,7 @@ run t h (after m m₁ m₂ c a cs rs s more) =
 -- an accepted analysis of the list
 analysis-shown : (bs : List ℕ) (k : ℕ) (s : StreamTally) → firstOf (orderOf k (analysis bs) s) ≡ 0 → AnalysisShown bs
 analysis-shown bs k s z =
-    let last : Order = (14, otherPair (s .pair) (combustionIn bs) (meteringIn bs)) ∷ [] in
-    let clear = clear-first (recordOrder bs) last tt (clear-second ((13, above15 k) ∷ []) (recordOrder bs ++ last) tt z) in
+    let clear = record-clear bs (above15 k) (otherPair (s .pair) (combustionIn bs) (meteringIn bs)) z in
     let reads : readingOf bs ≡ accepted (contentsIn bs) = ap (λ (n : ℕ). decided n (contentsIn bs)) clear in
     record { contents = contentsIn bs; reads = reads; shown = every-accepted-record bs (contentsIn bs) reads }
 

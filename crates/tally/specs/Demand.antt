@@ -90,23 +90,7 @@ pub record Demand3 (cs : List Call) (rs : List Answer) (m : Meter) : Type 0 wher
   -- what the contracts require holds after the list; since the claim is for every list, it holds before each of its calls too
   pub required : Required m
 
--- totals and mean are readings
-abbrev pub isReading : Ask → Bool
-isReading (analysis bs) = false
-isReading (metering v) = false
-isReading totals = true
-isReading mean = true
-
--- one call: a refused one and a reading leave the meter as it was, and every stream but the named one stays as it was
-pub record Leaves (m : Meter) (c : Call) (a : Answer) (m₁ : Meter) : Type 0 where
-  pub refusal : (n : ℕ) → a ≡ refused n → m₁ ≡ m
-  pub reading : isReading (c .ask) ≡ true → m₁ ≡ m
-  pub others : (j : ℕ) → (j ≡ c .stream → ⊥) → streamAt m₁ j ≡ streamAt m j
-
-abbrev pub EveryStepLeaves : Type 0
-EveryStepLeaves = (m m₁ : Meter) (c : Call) (a : Answer) → Required m → Step m c a m₁ → Leaves m c a m₁
-
--- the claim
+-- demand 3: for every list of calls from a meter that `fresh` returned
 abbrev pub Claim : Type 0
 Claim = (m₀ m : Meter) (cs : List Call) (rs : List Answer) → FreshReturns m₀ → Run m₀ cs rs m → Demand3 cs rs m
 
@@ -122,3 +106,19 @@ EveryListHasRun = (m : Meter) (cs : List Call) → HasRun m cs
 pub record HasFresh : Type 0 where
   pub meter : Meter
   pub returns : FreshReturns meter
+
+-- totals and mean are readings
+abbrev pub isReading : Ask → Bool
+isReading (analysis bs) = false
+isReading (metering v) = false
+isReading totals = true
+isReading mean = true
+
+-- one call: a refused one and a reading leave the meter as it was, and every stream but the named one stays as it was
+pub record Leaves (m : Meter) (c : Call) (a : Answer) (m₁ : Meter) : Type 0 where
+  pub refusal : (n : ℕ) → a ≡ refused n → m₁ ≡ m
+  pub reading : isReading (c .ask) ≡ true → m₁ ≡ m
+  pub others : (j : ℕ) → (j ≡ c .stream → ⊥) → streamAt m₁ j ≡ streamAt m j
+
+abbrev pub EveryStepLeaves : Type 0
+EveryStepLeaves = (m m₁ : Meter) (c : Call) (a : Answer) → Required m → Step m c a m₁ → Leaves m c a m₁
