@@ -1,0 +1,39 @@
+-- What an exported function gives, from the answer of the call behind it.
+use mathlib.Core.Path.{_≡_, refl, sym, ap, _∙_}
+use Prim.Native.Nat.{ℕ}
+use lib.ListN.{length}
+use Rattle.records.specs.Order.{Outcome, firstOf, refused, accepted, otherwise}
+use Rattle.records.specs.declared.Verdict.{Verdict}
+use Rattle.records.specs.declared.Verdict.the-variants.{Accepted, Refused}
+use Rattle.records.specs.Answers.{Gives, meaning}
+use Rattle.records.specs.Format.{contentsIn, bytesOf, placed}
+use Rattle.records.specs.Conditions.{recordOrder, writerOrder}
+use Rattle.records.proofs.OrderLaws.{decided-refused}
+use Rattle.properties.proofs.Outcomes.{number-of-refused}
+use Rattle.loonstool.specs.Exports.{numberOf, Returns, ZeroIsAccepted}
+
+module _ {A : Type 0} {outcome : Outcome A} (before : A) {number : ℕ} {after : A} where
+  pub refusal : {n : ℕ} → refused n ≡ outcome → number ≡ n → after ≡ before → Returns outcome before number after
+  refusal is n old = record { number-is = n ∙ ap numberOf is; after-is = old ∙ ap (otherwise before) is }
+
+  pub acceptance : {answer : A} → accepted answer ≡ outcome → number ≡ 0 → after ≡ answer → Returns outcome before number after
+  acceptance is z new = record { number-is = z ∙ ap numberOf is; after-is = new ∙ ap (otherwise before) is }
+
+-- what a call gave with a verdict, for each of its cases
+module _ {A : Type 0} {outcome : Outcome A} {before after : A} {v : Verdict} (g : Gives outcome before v after) {number : ℕ} where
+  gave : number ≡ numberOf (meaning v after) → Returns outcome before number after
+  gave n = record { number-is = n ∙ ap numberOf (g .means); after-is = g .stands }
+
+  pub gave-refusal : {n : ℕ} → v ≡ Refused n → number ≡ n → Returns outcome before number after
+  gave-refusal e n = gave (n ∙ ap (λ (w : Verdict). numberOf (meaning w after)) (sym e))
+
+  pub gave-acceptance : v ≡ Accepted → number ≡ 0 → Returns outcome before number after
+  gave-acceptance e z = gave (z ∙ ap (λ (w : Verdict). numberOf (meaning w after)) (sym e))
+
+pub zero-is-accepted : ZeroIsAccepted
+zero-is-accepted =
+    record {
+      properties = λ bs e. number-of-refused bs 0 (sym e) .1 refl;
+      reading = λ bs e. decided-refused (firstOf (recordOrder bs)) (contentsIn bs) 0 e .1 refl;
+      writing = λ k old e. decided-refused (firstOf (writerOrder k (length old))) (placed old 0 (bytesOf k)) 0 e .1 refl;
+    }
