@@ -29,7 +29,7 @@ fn in_order(p: Properties) -> [u64; 6]
 
 // Z, Hs, Hi, rho, d and W of a record.
 #[no_mangle]
-pub extern "C" fn loonstool_properties(bytes: &[u8], out: &mut [u64; 6]) -> u8
+pub extern "C" fn loonstool_properties_of(bytes: &[u8], out: &mut [u64; 6]) -> u8
     ensures { λ r. ⌜ Returns (mapped inOrder (propertiesOf (now (bytes .entry)))) (now (out .entry)) r (now (out .exit)) ⌝ }
 {
     match properties::properties_of(bytes) {

@@ -20,6 +20,9 @@ const NITROGEN: u8 = 52;
 
 const CARBON_DIOXIDE: u8 = 54;
 
+// The limit of every line but those named, and no limit but water's is below it.
+const COMMON_LIMIT: u32 = 50000;
+
 // The six permitted pairs.
 fn pair_permitted(combustion: u8, metering: u8) -> bool
     ensures { λ r. ⌜ r ≡ permitted combustion metering ⌝ }
@@ -179,13 +182,16 @@ fn limit_of(line: u8) -> u32
     if line == WATER {
         return 200;
     }
-    50000
+    COMMON_LIMIT
 }
 
 // An entry of a line other than methane and water is above its limit.
 fn above_limit(line: u8, fraction: u32) -> bool
     ensures { λ r. ⌜ r ≡ aboveLimit line fraction ⌝ }
 {
+    if fraction <= COMMON_LIMIT {
+        return false;
+    }
     (line != METHANE) & (line != WATER) & (limit_of(line) < fraction)
 }
 

@@ -23,7 +23,8 @@ roots : (root 18446744065119617025 ≡ 4294967295) × (root 18446744065119617024
 unfolding root rootFrom
 roots = (refl, refl, refl)
 
--- the search for the root of 0 halves its candidate to 0, that of 2^60 begins with the root, that of d × 10^10 of K1 takes four rounds
-rounds : (rootRounds 0 ≡ 31) × (rootRounds 1152921504606846976 ≡ 1) × (rootRounds 604593670000000000 ≡ 4)
+-- the search for the root of 0 halves its candidate to 0, that of 0.6084 × 10^18 begins with the root, that of d × 10^10 of K1 takes two
+-- rounds
+rounds : (rootRounds 0 ≡ 30) × (rootRounds 608400000000000000 ≡ 1) × (rootRounds 604593670000000000 ≡ 2)
 unfolding root rootFrom nextCandidate firstCandidate roundsFrom rootRounds
 rounds = (refl, refl, refl)

@@ -9,7 +9,7 @@ use native.Mathlib.Decide.{decLe}
 use borrow.Author.Tests.{eq-eqb, ne-eqb, ltb-true}
 use lib.Dec.{eqb, ltb}
 use lib.Pow.{pow-add, pow-mono}
-use Rattle.rounding.specs.Root.{Root, root, nextCandidate, firstCandidate, roundsFrom, rootRounds}
+use Rattle.rounding.specs.Root.{Root, root, nextCandidate, commonRoot, firstCandidate, roundsFrom, rootRounds}
 use Rattle.rounding.proofs.RootLaws.{below-of-squares, root-is, root-greatest}
 
 -- a product is at most the square of the mean
@@ -63,13 +63,13 @@ unfolding firstCandidate
 first-least n h = go (ltb start (2 ^ 32)) refl
   where
     start : ℕ
-    start = nextCandidate n (2 ^ 30)
+    start = nextCandidate n commonRoot
 
     below : root n < 2 ^ 32
     below = below-of-squares (root n) (2 ^ 32) n (root-is n h .square) (omega arith)
 
     go : (b : Bool) → ltb start (2 ^ 32) ≡ b → (root n ≤ cond b start (2 ^ 32 - 1)) × (cond b start (2 ^ 32 - 1) < 2 ^ 32)
-    go true e = (not-below n (2 ^ 30) (root-is n h) (omega arith), ltb-true _ _ e)
+    go true e = (not-below n commonRoot (root-is n h) (omega arith), ltb-true _ _ e)
     go false e = (omega (arith, below), omega arith)
 
 pub first-above : (n c : ℕ) → n < 2 ^ 64 → c ≡ firstCandidate n → Above n c 0

@@ -22,9 +22,13 @@ root n = rootFrom 32 n 0
 unfoldable pub nextCandidate : ℕ → ℕ → ℕ
 nextCandidate n c = (c + n / c) / 2
 
--- the first candidate is the one after 2^30, or the largest root where it is above that
+-- a root near those of natural gases: r is 780,000,000 for d = 0.6084
+abbrev pub commonRoot : ℕ
+commonRoot = 780000000
+
+-- the first candidate is the one after it, or the largest root where it is above that
 unfoldable pub firstCandidate : ℕ → ℕ
-firstCandidate n = cond (ltb (nextCandidate n (2 ^ 30)) (2 ^ 32)) (nextCandidate n (2 ^ 30)) (2 ^ 32 - 1)
+firstCandidate n = cond (ltb (nextCandidate n commonRoot) (2 ^ 32)) (nextCandidate n commonRoot) (2 ^ 32 - 1)
 
 -- the rounds from candidate c until r is tried, at most k
 unfoldable pub roundsFrom : ℕ → ℕ → ℕ → ℕ → ℕ

@@ -54,11 +54,14 @@ struct Rooted {
     rounds: u64,
 }
 
+// A root near those of natural gases.
+const COMMON_ROOT: u64 = 780000000;
+
 // The first candidate for the root, at least the root.
 fn first_candidate(n: u64) -> u64
     ensures { λ r. ⌜ r ≡ firstCandidate n ⌝ }
 {
-    let c = (1073741824 + n / 1073741824) / 2;
+    let c = (COMMON_ROOT + n / COMMON_ROOT) / 2;
     if c < 4294967296 { c } else { 4294967295 }
 }
 

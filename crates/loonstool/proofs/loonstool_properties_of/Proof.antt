@@ -5,8 +5,8 @@ use Rattle.properties.specs.Answers.{meaning}
 use Rattle.loonstool.specs.Exports.{inOrder}
 use Rattle.loonstool.proofs.Outcomes.{refusal, acceptance}
 use borrow.Author.Needs.{needs}
-use Rattle.loonstool.proofs.loonstool_properties.Statement.{statement}
-use Rattle.loonstool.proofs.loonstool_properties.Tie as tie
+use Rattle.loonstool.proofs.loonstool_properties_of.Statement.{statement}
+use Rattle.loonstool.proofs.loonstool_properties_of.Tie as tie
 
 properties-of-requires : tie.Need-properties-of-requires
 properties-of-requires c κs = search needs
@@ -31,8 +31,8 @@ returns-2 c =
     let a = m .before .before in
     acceptance _ (ap (mapped inOrder) (sym (ap meaning (m .p .given .1)) ∙ a .properties-of .ensures)) refl (search needs)
 
-pub loonstool-properties-spec : {M : Type 1} → statement M
-loonstool-properties-spec =
+pub loonstool-properties-of-spec : {M : Type 1} → statement M
+loonstool-properties-of-spec =
     tie.close
     (tie.spec
     properties-of-requires

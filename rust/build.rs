@@ -1,0 +1,22 @@
+//! Links the static library that `rt staticlib loonstool` writes: from the folder that LOONSTOOL_LIB_DIR names, or ../target/staticlib.
+use std::env;
+use std::path::PathBuf;
+
+fn main() {
+    println!("cargo:rerun-if-env-changed=LOONSTOOL_LIB_DIR");
+    let folder = match env::var_os("LOONSTOOL_LIB_DIR") {
+        Some(folder) => PathBuf::from(folder),
+        None => PathBuf::from(env!("CARGO_MANIFEST_DIR")).join("../target/staticlib"),
+    };
+    let archive = folder.join("libloonstool.a");
+    if !archive.is_file() {
+        eprintln!(
+            "{} is missing: run `rt staticlib loonstool` in the repository, or set LOONSTOOL_LIB_DIR",
+            archive.display()
+        );
+        std::process::exit(1);
+    }
+    println!("cargo:rerun-if-changed={}", archive.display());
+    println!("cargo:rustc-link-search=native={}", folder.display());
+    println!("cargo:rustc-link-lib=static=loonstool");
+}

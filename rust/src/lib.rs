@@ -1,0 +1,155 @@
+//! Natural gas properties by ISO 6976:1995, from analysis records: safe functions over the proved static library (see
+//! `include/loonstool.h` in the repository).
+//!
+//! The exported functions take whatever bytes and numbers they are given. What they require of a caller is that pointers are valid
+//! for their lengths, aligned, and that what is filled overlaps nothing else. Rust's slices and `&mut` have all of that, so there is
+//! nothing left for these functions to test.
+//!
+//! ```
+//! let lines = [1];
+//! let fractions = [1_000_000];
+//! let mut buffer = [0; loonstool::record_bytes(1)];
+//! let filled = loonstool::write(15, 15, &lines, &fractions, &mut buffer)?;
+//! let properties = loonstool::properties_of(&buffer[..filled])?;
+//! assert_eq!((properties.z, properties.hs), (998_001_910, 37_781_616));
+//! # Ok::<(), loonstool::Refusal>(())
+//! ```
+#![no_std]
+#![warn(missing_docs)]
+
+mod refusal;
+
+pub use refusal::Refusal;
+
+/// The lines of the component table, and the most entries that a record has.
+pub const LINES: usize = 55;
+
+/// The bytes of a record with `entries` entries.
+pub const fn record_bytes(entries: usize) -> usize {
+    8 + 5 * entries
+}
+
+/// The six properties. None passes its ceiling.
+#[derive(Debug, Clone, Copy, PartialEq, Eq)]
+pub struct Properties {
+    /// Compression factor, unit 10^-9, at most 1,000,000,000.
+    pub z: u64,
+    /// Superior calorific value, unit J/m³, at most 250,000,000.
+    pub hs: u64,
+    /// Inferior calorific value, unit J/m³, at most 250,000,000.
+    pub hi: u64,
+    /// Density, unit 10^-8 kg/m³, at most 510,000,000.
+    pub rho: u64,
+    /// Relative density, unit 10^-8, at most 390,000,000.
+    pub d: u64,
+    /// Wobbe index, unit J/m³, at most 470,000,000.
+    pub w: u64,
+}
+
+/// What a record says: the pair of temperatures in °C, and `count` entries. Past the entries stands 0.
+#[derive(Debug, Clone, Copy, PartialEq, Eq)]
+pub struct Analysis {
+    /// Combustion temperature.
+    pub combustion: u8,
+    /// Metering temperature.
+    pub metering: u8,
+    /// The number of entries, at most [`LINES`].
+    pub count: usize,
+    /// Line numbers, ascending.
+    pub lines: [u8; LINES],
+    /// Mole fractions, ppm.
+    pub fractions: [u32; LINES],
+}
+
+extern "C" {
+    fn loonstool_properties_of(record: *const u8, length: usize, properties: *mut [u64; 6]) -> u8;
+
+    fn loonstool_read(
+        record: *const u8,
+        length: usize,
+        combustion: *mut u8,
+        metering: *mut u8,
+        count: *mut usize,
+        lines: *mut [u8; LINES],
+        fractions: *mut [u32; LINES],
+    ) -> u8;
+
+    fn loonstool_write(
+        combustion: u8,
+        metering: u8,
+        lines: *const u8,
+        line_count: usize,
+        fractions: *const u32,
+        fraction_count: usize,
+        buffer: *mut u8,
+        buffer_length: usize,
+    ) -> u8;
+}
+
+/// The properties of a record. Refused by 1 to 12.
+pub fn properties_of(record: &[u8]) -> Result<Properties, Refusal> {
+    let mut six = [0; 6];
+    // SAFETY: the slice is valid for its length, and `six` is ours, of the size that is filled.
+    let number = unsafe { loonstool_properties_of(record.as_ptr(), record.len(), &mut six) };
+    Refusal::unless_accepted(number)?;
+    let [z, hs, hi, rho, d, w] = six;
+    Ok(Properties {
+        z,
+        hs,
+        hi,
+        rho,
+        d,
+        w,
+    })
+}
+
+/// Reads a record. Refused by 1 to 12.
+pub fn read(record: &[u8]) -> Result<Analysis, Refusal> {
+    let mut analysis = Analysis {
+        combustion: 0,
+        metering: 0,
+        count: 0,
+        lines: [0; LINES],
+        fractions: [0; LINES],
+    };
+    // SAFETY: the slice is valid for its length; the fields are ours, apart from each other, of the sizes that are filled.
+    let number = unsafe {
+        loonstool_read(
+            record.as_ptr(),
+            record.len(),
+            &mut analysis.combustion,
+            &mut analysis.metering,
+            &mut analysis.count,
+            &mut analysis.lines,
+            &mut analysis.fractions,
+        )
+    };
+    Refusal::unless_accepted(number)?;
+    Ok(analysis)
+}
+
+/// Writes a record into the first [`record_bytes`] bytes of a buffer and no others, and answers how many they are. Refused by 19, 4,
+/// 5, 7 to 12 and 20, tried in that order; a refusal leaves the buffer as it was.
+pub fn write(
+    combustion: u8,
+    metering: u8,
+    lines: &[u8],
+    fractions: &[u32],
+    buffer: &mut [u8],
+) -> Result<usize, Refusal> {
+    // SAFETY: the slices are valid for their lengths, and `buffer`, borrowed mutably, overlaps neither list.
+    let number = unsafe {
+        loonstool_write(
+            combustion,
+            metering,
+            lines.as_ptr(),
+            lines.len(),
+            fractions.as_ptr(),
+            fractions.len(),
+            buffer.as_mut_ptr(),
+            buffer.len(),
+        )
+    };
+    Refusal::unless_accepted(number)?;
+    Ok(record_bytes(lines.len()))
+}
