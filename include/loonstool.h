@@ -61,8 +61,22 @@ struct loonstool_properties {
     uint64_t w;   /* Wobbe index, unit J/m3, at most 470,000,000 */
 };
 
-/* The properties of a record of `length` bytes. Refused by 1 to 12. */
+/* The properties of a record of `length` bytes. Refused by 1 to 12. The component table is made anew on the stack for each accepted
+ * record; loonstool_properties_with takes one that was made before. */
 uint8_t loonstool_properties_of(const uint8_t *record, size_t length, struct loonstool_properties *properties);
+
+/* The component table. */
+struct loonstool_table {
+    int32_t numbers[LOONSTOOL_LINES][12];
+};
+
+/* Fills a component table, which may then be used for any number of calls. */
+void loonstool_make_table(struct loonstool_table *table);
+
+/* The same as loonstool_properties_of, with less stack and in less time. The table has to be one that loonstool_make_table filled and
+ * nothing has written since. */
+uint8_t loonstool_properties_with(const struct loonstool_table *table, const uint8_t *record, size_t length,
+                                  struct loonstool_properties *properties);
 
 /* Reads a record of `length` bytes: the pair of temperatures in °C, the number of entries, and their line numbers and mole fractions
  * in ppm. It fills all LOONSTOOL_LINES places of both arrays, with 0 past the entries. Refused by 1 to 12. */

@@ -2,8 +2,8 @@
 //! `include/loonstool.h` in the repository).
 //!
 //! The exported functions take whatever bytes and numbers they are given. What they require of a caller is that pointers are valid
-//! for their lengths, aligned, and that what is filled overlaps nothing else. Rust's slices and `&mut` have all of that, so there is
-//! nothing left for these functions to test.
+//! for their lengths, aligned, and that what is filled overlaps nothing else. Rust's slices and `&mut` have all of that. One requires
+//! the component table as it was made, which a [`Calculator`] holds and nothing else can write. So there is nothing left to test.
 //!
 //! ```
 //! let lines = [1];
@@ -19,6 +19,8 @@
 
 mod refusal;
 
+use core::mem::MaybeUninit;
+
 pub use refusal::Refusal;
 
 /// The lines of the component table, and the most entries that a record has.
@@ -31,6 +33,7 @@ pub const fn record_bytes(entries: usize) -> usize {
 
 /// The six properties. None passes its ceiling.
 #[derive(Debug, Clone, Copy, PartialEq, Eq)]
+#[repr(C)]
 pub struct Properties {
     /// Compression factor, unit 10^-9, at most 1,000,000,000.
     pub z: u64,
@@ -61,8 +64,21 @@ pub struct Analysis {
     pub fractions: [u32; LINES],
 }
 
+/// The component table: a line has twelve columns.
+type Table = [[i32; 12]; LINES];
+
 extern "C" {
-    fn loonstool_properties_of(record: *const u8, length: usize, properties: *mut [u64; 6]) -> u8;
+    fn loonstool_make_table(table: *mut Table);
+
+    fn loonstool_properties_with(
+        table: *const Table,
+        record: *const u8,
+        length: usize,
+        properties: *mut Properties,
+    ) -> u8;
+
+    fn loonstool_properties_of(record: *const u8, length: usize, properties: *mut Properties)
+        -> u8;
 
     fn loonstool_read(
         record: *const u8,
@@ -86,21 +102,58 @@ extern "C" {
     ) -> u8;
 }
 
-/// The properties of a record. Refused by 1 to 12.
+/// The properties of a record. Refused by 1 to 12. The component table is made anew for each accepted record; [`Calculator`] makes it
+/// once.
 pub fn properties_of(record: &[u8]) -> Result<Properties, Refusal> {
-    let mut six = [0; 6];
-    // SAFETY: the slice is valid for its length, and `six` is ours, of the size that is filled.
-    let number = unsafe { loonstool_properties_of(record.as_ptr(), record.len(), &mut six) };
+    let mut properties = MaybeUninit::uninit();
+    // SAFETY: the slice is valid for its length, and `properties` is ours.
+    let number =
+        unsafe { loonstool_properties_of(record.as_ptr(), record.len(), properties.as_mut_ptr()) };
     Refusal::unless_accepted(number)?;
-    let [z, hs, hi, rho, d, w] = six;
-    Ok(Properties {
-        z,
-        hs,
-        hi,
-        rho,
-        d,
-        w,
-    })
+    // SAFETY: an accepted call fills all six.
+    Ok(unsafe { properties.assume_init() })
+}
+
+/// The component table, made once for many records. It takes 2,640 bytes, which a call then does not need on the stack.
+#[derive(Clone)]
+pub struct Calculator {
+    table: Table,
+}
+
+impl Calculator {
+    /// Makes the table.
+    pub fn new() -> Calculator {
+        let mut table = MaybeUninit::uninit();
+        // SAFETY: `table` is ours, and the call fills it whole.
+        let table = unsafe {
+            loonstool_make_table(table.as_mut_ptr());
+            table.assume_init()
+        };
+        Calculator { table }
+    }
+
+    /// The properties of a record, as [`properties_of`] gives them.
+    pub fn properties_of(&self, record: &[u8]) -> Result<Properties, Refusal> {
+        let mut properties = MaybeUninit::uninit();
+        // SAFETY: the slice is valid for its length, `properties` is ours, and the table is as it was made: `new` alone writes it.
+        let number = unsafe {
+            loonstool_properties_with(
+                &self.table,
+                record.as_ptr(),
+                record.len(),
+                properties.as_mut_ptr(),
+            )
+        };
+        Refusal::unless_accepted(number)?;
+        // SAFETY: an accepted call fills all six.
+        Ok(unsafe { properties.assume_init() })
+    }
+}
+
+impl Default for Calculator {
+    fn default() -> Calculator {
+        Calculator::new()
+    }
 }
 
 /// Reads a record. Refused by 1 to 12.

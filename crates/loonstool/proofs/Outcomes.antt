@@ -19,6 +19,10 @@ module _ {A : Type 0} {outcome : Outcome A} (before : A) {number : ℕ} {after :
   pub acceptance : {answer : A} → accepted answer ≡ outcome → number ≡ 0 → after ≡ answer → Returns outcome before number after
   acceptance is z new = record { number-is = z ∙ ap numberOf is; after-is = new ∙ ap (otherwise before) is }
 
+-- of an outcome that is the same
+pub alike : {A : Type 0} {o p : Outcome A} {before after : A} {number : ℕ} → Returns o before number after → o ≡ p → Returns p before number after
+alike {before = b} r e = record { number-is = r .number-is ∙ ap numberOf e; after-is = r .after-is ∙ ap (otherwise b) e }
+
 -- what a call gave with a verdict, for each of its cases
 module _ {A : Type 0} {outcome : Outcome A} {before after : A} {v : Verdict} (g : Gives outcome before v after) {number : ℕ} where
   gave : number ≡ numberOf (meaning v after) → Returns outcome before number after

@@ -2,12 +2,13 @@
 // functions for C, rust/ wraps them for Rust. Each gives 0 where the call is accepted, or document 01's number; a refusal leaves what
 // the caller lent as it was.
 ghost use mathlib.Core.Path.{_≡_};
+ghost use Rattle.components.specs.Table.{componentTable};
 ghost use Rattle.records.specs.Order.{mapped};
 ghost use Rattle.records.specs.Format.{contents};
 ghost use Rattle.records.specs.Calls.{readingOf, writingOf};
 ghost use Rattle.records.specs.Answers.{held};
 ghost use Rattle.properties.specs.Chain.{propertiesOf};
-ghost use Rattle.properties.specs.Answers.{numbers};
+ghost use Rattle.properties.specs.Answers.{numbers, meaning};
 ghost use Rattle.loonstool.specs.Exports.{Returns, inOrder, analysis};
 use properties::Answer;
 use properties::Properties;
@@ -27,18 +28,46 @@ fn in_order(p: Properties) -> [u64; 6]
     ]
 }
 
-// Z, Hs, Hi, rho, d and W of a record.
-#[no_mangle]
-pub extern "C" fn loonstool_properties_of(bytes: &[u8], out: &mut [u64; 6]) -> u8
-    ensures { λ r. ⌜ Returns (mapped inOrder (propertiesOf (now (bytes .entry)))) (now (out .entry)) r (now (out .exit)) ⌝ }
+// The number of an answer, and its properties into lent memory.
+fn give(answer: Answer, out: &mut [u64; 6]) -> u8
+    ensures { λ r. ⌜ Returns (mapped inOrder (meaning answer)) (now (out .entry)) r (now (out .exit)) ⌝ }
 {
-    match properties::properties_of(bytes) {
+    match answer {
         Answer::Refused(number) => number,
         Answer::Accepted(p) => {
             *out = in_order(p);
             0
         }
     }
+}
+
+// The component table, for `loonstool_properties_with`.
+#[no_mangle]
+pub extern "C" fn loonstool_make_table(table: &mut [[i32; 12]; 55])
+    ensures { λ _. ⌜ now (table .exit) ≡ componentTable ⌝ }
+{
+    *table = components::component_table();
+}
+
+// Z, Hs, Hi, rho, d and W of a record, by a component table that the caller has had made.
+#[no_mangle]
+pub extern "C" fn loonstool_properties_with(
+    table: &[[i32; 12]; 55],
+    bytes: &[u8],
+    out: &mut [u64; 6],
+) -> u8
+    requires { ⌜ now table ≡ componentTable ⌝ }
+    ensures { λ r. ⌜ Returns (mapped inOrder (propertiesOf (now (bytes .entry)))) (now (out .entry)) r (now (out .exit)) ⌝ }
+{
+    give(properties::properties_with(table, bytes), out)
+}
+
+// Z, Hs, Hi, rho, d and W of a record.
+#[no_mangle]
+pub extern "C" fn loonstool_properties_of(bytes: &[u8], out: &mut [u64; 6]) -> u8
+    ensures { λ r. ⌜ Returns (mapped inOrder (propertiesOf (now (bytes .entry)))) (now (out .entry)) r (now (out .exit)) ⌝ }
+{
+    give(properties::properties_of(bytes), out)
 }
 
 // Reads a record: the pair of temperatures in °C, the number of entries, and their line numbers and fractions, with 0 past them.

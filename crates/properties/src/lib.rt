@@ -2,8 +2,10 @@
 // that reading it gives.
 ghost use mathlib.Core.Path.{_≡_};
 ghost use Rattle.records.specs.Order.{firstOf};
-ghost use Rattle.records.specs.Format.{contents};
-ghost use Rattle.records.specs.Conditions.{headOrder};
+ghost use Rattle.components.specs.Table.{componentTable};
+ghost use Rattle.records.specs.Format.{contents, contentsIn, linesIn, fractionsIn};
+ghost use Rattle.records.specs.Conditions.{headOrder, recordOrder};
+ghost use Rattle.records.specs.Answers.{padded};
 ghost use Rattle.records.specs.Accepted.{Acceptable};
 ghost use Rattle.properties.specs.Chain.{sixOf, propertiesOf};
 ghost use Rattle.properties.specs.Answers.{numbers, meaning};
@@ -35,11 +37,18 @@ pub enum Answer {
 }
 
 // The properties of a composition.
-fn calculate(combustion: u8, metering: u8, lines: &[u8], fractions: &[u32]) -> Properties
+fn calculate(
+    table: &[[i32; 12]; 55],
+    combustion: u8,
+    metering: u8,
+    lines: &[u8],
+    fractions: &[u32],
+) -> Properties
+    requires { ⌜ now table ≡ componentTable ⌝ }
     requires { ⌜ Acceptable (contents combustion metering (now lines) (now fractions)) ⌝ }
     ensures { λ r. ⌜ numbers r ≡ sixOf (contents combustion metering (now (lines .entry)) (now (fractions .entry))) ⌝ }
 {
-    let sums = sums::sums_of(combustion, metering, lines, fractions);
+    let sums = sums::sums_of(table, combustion, metering, lines, fractions);
     let divisor = steps::divisor(metering);
     let air = steps::air_factor(metering);
     let z = steps::compression_factor(sums.summation);
@@ -58,6 +67,22 @@ fn calculate(combustion: u8, metering: u8, lines: &[u8], fractions: &[u32]) -> P
     }
 }
 
+// The properties of an accepted record, from the arrays that its entries were read into.
+fn calculate_record(
+    table: &[[i32; 12]; 55],
+    bytes: &[u8],
+    lines: &[u8],
+    fractions: &[u32],
+) -> Properties
+    requires { ⌜ now table ≡ componentTable ⌝ }
+    requires { ⌜ firstOf (recordOrder (now bytes)) ≡ 0 ⌝ }
+    requires { ⌜ (now lines ≡ padded (linesIn (now bytes))) × (now fractions ≡ padded (fractionsIn (now bytes))) ⌝ }
+    ensures { λ r. ⌜ numbers r ≡ sixOf (contentsIn (now (bytes .entry))) ⌝ }
+{
+    let n = bytes[7] as usize;
+    calculate(table, bytes[5], bytes[6], &lines[..n], &fractions[..n])
+}
+
 // The properties of a record.
 pub fn properties_of(bytes: &[u8]) -> Answer
     ensures { λ r. ⌜ meaning r ≡ propertiesOf (now (bytes .entry)) ⌝ }
@@ -74,12 +99,39 @@ fn properties_of_entries(bytes: &[u8]) -> Answer
     requires { ⌜ firstOf (headOrder (now bytes)) ≡ 0 ⌝ }
     ensures { λ r. ⌜ meaning r ≡ propertiesOf (now (bytes .entry)) ⌝ }
 {
-    let n = bytes[7] as usize;
     let mut lines = [0u8; 55];
     let mut fractions = [0u32; 55];
     let refusal = records::entries_refusal(bytes, &mut lines, &mut fractions);
     if refusal != 0 {
         return Answer::Refused(refusal);
     }
-    Answer::Accepted(calculate(bytes[5], bytes[6], &lines[..n], &fractions[..n]))
+    let table = components::component_table();
+    Answer::Accepted(calculate_record(&table, bytes, &lines, &fractions))
+}
+
+// The properties of a record by a component table that the caller has made, so that many records need it made once.
+pub fn properties_with(table: &[[i32; 12]; 55], bytes: &[u8]) -> Answer
+    requires { ⌜ now table ≡ componentTable ⌝ }
+    ensures { λ r. ⌜ meaning r ≡ propertiesOf (now (bytes .entry)) ⌝ }
+{
+    let head = records::head_refusal(bytes);
+    if head != 0 {
+        return Answer::Refused(head);
+    }
+    properties_with_entries(table, bytes)
+}
+
+// The same where none of 1 to 6 holds.
+fn properties_with_entries(table: &[[i32; 12]; 55], bytes: &[u8]) -> Answer
+    requires { ⌜ now table ≡ componentTable ⌝ }
+    requires { ⌜ firstOf (headOrder (now bytes)) ≡ 0 ⌝ }
+    ensures { λ r. ⌜ meaning r ≡ propertiesOf (now (bytes .entry)) ⌝ }
+{
+    let mut lines = [0u8; 55];
+    let mut fractions = [0u32; 55];
+    let refusal = records::entries_refusal(bytes, &mut lines, &mut fractions);
+    if refusal != 0 {
+        return Answer::Refused(refusal);
+    }
+    Answer::Accepted(calculate_record(table, bytes, &lines, &fractions))
 }

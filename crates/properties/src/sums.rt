@@ -1,5 +1,6 @@
 // 1. The sums of a composition over the component table.
 ghost use mathlib.Core.Path.{_≡_};
+ghost use Rattle.components.specs.Table.{componentTable};
 ghost use Rattle.records.specs.Format.{contents};
 ghost use Rattle.records.specs.Accepted.{Acceptable};
 ghost use Rattle.properties.specs.Chain.{combustionPlace, meteringPlace, HmSuperior, HmInferior, M, S};
@@ -30,16 +31,22 @@ fn metering_place(metering: u8) -> usize
 }
 
 // The sums of a composition.
-pub fn sums_of(combustion: u8, metering: u8, lines: &[u8], fractions: &[u32]) -> Sums
+pub fn sums_of(
+    table: &[[i32; 12]; 55],
+    combustion: u8,
+    metering: u8,
+    lines: &[u8],
+    fractions: &[u32],
+) -> Sums
+    requires { ⌜ now table ≡ componentTable ⌝ }
     requires { ⌜ Acceptable (contents combustion metering (now lines) (now fractions)) ⌝ }
     ensures superior { λ r. ⌜ r .superior ≡ HmSuperior (contents combustion metering (now (lines .entry)) (now (fractions .entry))) ⌝ }
     ensures inferior { λ r. ⌜ r .inferior ≡ HmInferior (contents combustion metering (now (lines .entry)) (now (fractions .entry))) ⌝ }
     ensures mass { λ r. ⌜ r .mass ≡ M (contents combustion metering (now (lines .entry)) (now (fractions .entry))) ⌝ }
     ensures summation { λ r. ⌜ r .summation ≡ S (contents combustion metering (now (lines .entry)) (now (fractions .entry))) ⌝ }
 {
-    let table = components::component_table();
     components::sums_of(
-        &table,
+        table,
         lines,
         fractions,
         combustion_place(combustion),

@@ -36,7 +36,7 @@ module _ (c : tie.After-struct-told) where
   gas = contents (start .args .combustion) (start .args .metering) (start .args .lines .now) (start .args .fractions .now)
 
   good : Acceptable gas
-  good = start .pre
+  good = start .pre .1
 
   summation-is : toZ w64 (ofZ w64 (c .before .before .before .sums-of .result .summation)) ≡ S gas
   summation-is =

@@ -14,13 +14,10 @@ use Rattle.properties.proofs.sums.sums_of.Tie as tie
 
 module _ (c : tie.After-metering-place) where
   abbrev start : tie.Start
-  start = c .before .before .before .before .before .before
+  start = c .before .before .before .before
 
   abbrev gas : Contents
   gas = contents (start .args .combustion) (start .args .metering) (start .args .lines .now) (start .args .fractions .now)
-
-component-table-requires : tie.Need-component-table-requires
-component-table-requires c κs = search needs
 
 combustion-place-requires : tie.Need-combustion-place-requires
 combustion-place-requires c κs = search needs
@@ -30,9 +27,9 @@ metering-place-requires c κs = search needs
 
 sums-of-requires : tie.Need-sums-of-requires
 sums-of-requires c κs = (
-  c .before .before .before .component-table .ensures,
+  start c .pre .0,
   (
-    start c .pre .composition,
+    start c .pre .1 .composition,
     (
       omega (arith, c .before .combustion-place .ensures, combustion-place (start c .args .combustion)),
       omega (arith, c .metering-place .ensures, metering-place (start c .args .metering)),
@@ -46,12 +43,12 @@ returns c =
     let b = c .before in
     let t = b .before .combustion-place .ensures in
     let e = c .sums-of .ensures in (
-      amount-is (gas b) (start b .pre) (ap superior t) _ (e .0),
+      amount-is (gas b) (start b .pre .1) (ap superior t) _ (e .0),
       (
-        amount-is (gas b) (start b .pre) (ap inferior t) _ (e .1 .0),
+        amount-is (gas b) (start b .pre .1) (ap inferior t) _ (e .1 .0),
         (
-          amount-is (gas b) (start b .pre) refl _ (e .1 .1 .0),
-          e .1 .1 .1 ∙ ap (λ (k : ℕ). sumOf (summation k) (gas b .lines) (gas b .fractions)) (b .metering-place .ensures) ∙ sym (over-entries (gas b) (start b .pre) _),
+          amount-is (gas b) (start b .pre .1) refl _ (e .1 .1 .0),
+          e .1 .1 .1 ∙ ap (λ (k : ℕ). sumOf (summation k) (gas b .lines) (gas b .fractions)) (b .metering-place .ensures) ∙ sym (over-entries (gas b) (start b .pre .1) _),
         ),
       ),
     )
@@ -60,7 +57,6 @@ pub sums-of-spec : {M : Type 1} → statement M
 sums-of-spec =
     tie.close
     (tie.spec
-    component-table-requires
     combustion-place-requires
     metering-place-requires
     sums-of-requires

@@ -1,0 +1,96 @@
+//! The meter of sixteen streams.
+
+use super::properties::{properties_of, Six};
+
+const STREAMS: usize = 16;
+const GREATEST_VOLUME: u64 = 10_000_000;
+const GREATEST_TOTAL: u64 = 999_999_999_999;
+
+/// mJ in a MJ.
+const MEGAJOULE: u64 = 1_000_000_000;
+
+/// The pair and the properties of a stream's last accepted analysis.
+#[derive(Debug, Clone, Copy)]
+struct InForce {
+    pair: (u8, u8),
+    properties: Six,
+}
+
+#[derive(Debug, Clone, Copy)]
+struct Stream {
+    in_force: Option<InForce>,
+    /// dm³.
+    volume: u64,
+    /// Whole MJ.
+    energy: u64,
+    /// mJ past the whole MJ, below 10^9.
+    rest: u64,
+}
+
+#[derive(Debug, Clone)]
+pub struct Meter {
+    streams: [Stream; STREAMS],
+}
+
+impl Meter {
+    /// A meter without analyses, volumes and energies 0.
+    pub fn fresh() -> Self {
+        let stream = Stream {
+            in_force: None,
+            volume: 0,
+            energy: 0,
+            rest: 0,
+        };
+        Self {
+            streams: [stream; STREAMS],
+        }
+    }
+
+    /// Puts a record's properties in force on a stream.
+    pub fn analysis(&mut self, stream: usize, record: &[u8]) -> Result<(), u8> {
+        let stream = self.streams.get_mut(stream).ok_or(13)?;
+        let properties = properties_of(record)?;
+        // An accepted record has its pair at bytes 5 and 6.
+        let pair = (record[5], record[6]);
+        if stream.in_force.is_some_and(|earlier| earlier.pair != pair) {
+            return Err(14);
+        }
+        stream.in_force = Some(InForce { pair, properties });
+        Ok(())
+    }
+
+    /// Adds a volume in dm³ and its energy.
+    pub fn metering(&mut self, stream: usize, volume: u64) -> Result<(), u8> {
+        let stream = self.streams.get_mut(stream).ok_or(13)?;
+        if volume > GREATEST_VOLUME {
+            return Err(15);
+        }
+        let in_force = stream.in_force.as_ref().ok_or(16)?;
+        let total = stream.volume + volume;
+        if total > GREATEST_TOTAL {
+            return Err(17);
+        }
+        let energy = stream.rest + volume * in_force.properties.hs;
+        stream.volume = total;
+        stream.energy += energy / MEGAJOULE;
+        stream.rest = energy % MEGAJOULE;
+        Ok(())
+    }
+
+    /// Volume in dm³, energy in whole MJ and its rest in mJ.
+    pub fn totals(&self, stream: usize) -> Result<(u64, u64, u64), u8> {
+        let stream = self.streams.get(stream).ok_or(13)?;
+        Ok((stream.volume, stream.energy, stream.rest))
+    }
+
+    /// The mean calorific value in J/m³: energy by volume, to the nearest.
+    pub fn mean(&self, stream: usize) -> Result<u64, u8> {
+        let (volume, energy, rest) = self.totals(stream)?;
+        if volume == 0 {
+            return Err(18);
+        }
+        let volume = u128::from(volume);
+        let energy = u128::from(energy) * u128::from(MEGAJOULE) + u128::from(rest);
+        Ok(((energy + volume / 2) / volume) as u64)
+    }
+}

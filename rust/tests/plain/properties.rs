@@ -1,0 +1,98 @@
+//! From fractions to the six properties.
+//!
+//! For an accepted record every product fits in 64 bits. The fractions sum to
+//! at most 1,000,100 and every table entry is below 6,850,000, every molar mass
+//! below 1,430,000, so Hm is below 7 × 10^12 and M below 1.44 × 10^12. The
+//! greatest products are Hm × 1,013,250, below 7.1 × 10^18, and
+//! M × 10,132,500, below 1.46 × 10^19; 2^64 is above 1.84 × 10^19. At least
+//! half is methane and every summation factor is below 7,600, so S9 is below
+//! 4.1 × 10^8, Z above 8 × 10^8, d below 7 × 10^8 and d × 10^10 below 7 × 10^18.
+
+use super::conditions::Conditions;
+use super::record::check;
+use super::table::{MASS, TABLE};
+
+const GIGA: u64 = 1_000_000_000;
+
+/// The six properties: Z in 10^-9, Hs, Hi and W in J/m³, rho in 10^-8 kg/m³, d
+/// in 10^-8.
+#[derive(Debug, Clone, Copy, PartialEq, Eq)]
+pub struct Six {
+    pub z: u64,
+    pub hs: u64,
+    pub hi: u64,
+    pub rho: u64,
+    pub d: u64,
+    pub w: u64,
+}
+
+/// The properties of a record, refused by 1 to 12.
+pub fn properties_of(record: &[u8]) -> Result<Six, u8> {
+    let checked = check(record)?;
+    let conditions = checked.conditions();
+    Ok(Sums::over(checked.entries(), conditions).properties(conditions))
+}
+
+/// The sums over all lines, without rounding.
+struct Sums {
+    superior: u64,
+    inferior: u64,
+    mass: u64,
+    factor: i64,
+}
+
+impl Sums {
+    fn over(entries: impl Iterator<Item = (u8, u32)>, conditions: &Conditions) -> Self {
+        let mut superior = 0;
+        let mut inferior = 0;
+        let mut mass = 0;
+        let mut factor = 0;
+        for (line, fraction) in entries {
+            let columns = &TABLE[usize::from(line) - 1];
+            let x = i64::from(fraction);
+            superior += x * i64::from(columns[conditions.superior]);
+            inferior += x * i64::from(columns[conditions.superior + 1]);
+            mass += x * i64::from(columns[MASS]);
+            factor += x * i64::from(columns[conditions.factor]);
+        }
+        // Only summation factors are negative.
+        Self {
+            superior: superior as u64,
+            inferior: inferior as u64,
+            mass: mass as u64,
+            factor,
+        }
+    }
+
+    fn properties(&self, conditions: &Conditions) -> Six {
+        let z = compression(self.factor);
+        let real = |ideal: u64| near(ideal * GIGA, z);
+        let hs = real(near(self.superior * 1_013_250, conditions.d));
+        let hi = real(near(self.inferior * 1_013_250, conditions.d));
+        let rho = real(near(self.mass * 10_132_500, conditions.d));
+        let d = real(near(self.mass * conditions.air, 289_626_000));
+        let root = (d * 10_000_000_000).isqrt();
+        let w = near(hs * GIGA, root);
+        Six {
+            z,
+            hs,
+            hi,
+            rho,
+            d,
+            w,
+        }
+    }
+}
+
+/// Z from the sum of the summation factors.
+fn compression(factor: i64) -> u64 {
+    // Halves upward, also where the sum is negative.
+    let s9 = (factor + 5).div_euclid(10);
+    let squared = s9.unsigned_abs().pow(2);
+    near(GIGA * GIGA - squared, GIGA)
+}
+
+/// The whole number nearest to n / q, halves upward.
+fn near(n: u64, q: u64) -> u64 {
+    (n + q / 2) / q
+}
