@@ -104,6 +104,7 @@ extern "C" {
 
 /// The properties of a record. Refused by 1 to 12. The component table is made anew for each accepted record; [`Calculator`] makes it
 /// once.
+#[inline]
 pub fn properties_of(record: &[u8]) -> Result<Properties, Refusal> {
     let mut properties = MaybeUninit::uninit();
     // SAFETY: the slice is valid for its length, and `properties` is ours.
@@ -133,6 +134,7 @@ impl Calculator {
     }
 
     /// The properties of a record, as [`properties_of`] gives them.
+    #[inline]
     pub fn properties_of(&self, record: &[u8]) -> Result<Properties, Refusal> {
         let mut properties = MaybeUninit::uninit();
         // SAFETY: the slice is valid for its length, `properties` is ours, and the table is as it was made: `new` alone writes it.
@@ -157,6 +159,7 @@ impl Default for Calculator {
 }
 
 /// Reads a record. Refused by 1 to 12.
+#[inline]
 pub fn read(record: &[u8]) -> Result<Analysis, Refusal> {
     let mut analysis = Analysis {
         combustion: 0,
@@ -183,6 +186,7 @@ pub fn read(record: &[u8]) -> Result<Analysis, Refusal> {
 
 /// Writes a record into the first [`record_bytes`] bytes of a buffer and no others, and answers how many they are. Refused by 19, 4,
 /// 5, 7 to 12 and 20, tried in that order; a refusal leaves the buffer as it was.
+#[inline]
 pub fn write(
     combustion: u8,
     metering: u8,
