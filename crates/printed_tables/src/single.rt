@@ -1,0 +1,62 @@
+// A composition of one line.
+ghost use mathlib.Core.Path.{_≡_};
+ghost use Prim.Native.Nat.{_*_, _≤_, _<_};
+ghost use lib.IntN.{natAbs};
+ghost use Rattle.components.specs.Table.{componentTable};
+use components::Sums;
+use libc::STDOUT_FILENO;
+
+// The sums of one line at a fraction.
+pub fn sums(table: &[[i32; 12]; 55], line: u8, fraction: u32, t: usize, k: usize) -> Sums
+    requires { ⌜ now table ≡ componentTable ⌝ }
+    requires { ⌜ (1 ≤ line) × (line ≤ 55) × (fraction ≤ 1000000) × (t < 4) × (k < 3) ⌝ }
+    ensures superior { λ r. ⌜ r .superior ≤ 10000000000000 ⌝ }
+    ensures inferior { λ r. ⌜ r .inferior ≤ 10000000000000 ⌝ }
+    ensures mass { λ r. ⌜ (20159 * fraction ≤ r .mass) × (r .mass ≤ 1500000000000) ⌝ }
+    ensures summation { λ r. ⌜ natAbs (r .summation) ≤ 10000000000 ⌝ }
+{
+    components::sums_of(table, &[line], &[fraction], t, k)
+}
+
+// Hm of one line alone, in a column of superior and inferior by turns.
+pub fn heat(table: &[[i32; 12]; 55], line: u8, t: usize, column: usize) -> u64
+    requires { ⌜ now table ≡ componentTable ⌝ }
+    requires { ⌜ (1 ≤ line) × (line ≤ 55) × (t < 4) ⌝ }
+    ensures { λ r. ⌜ r ≤ 10000000000000 ⌝ }
+{
+    let sums = sums(table, line, 1000000, t, 0);
+    if column % 2 == 0 {
+        return sums.superior;
+    }
+    sums.inferior
+}
+
+// The place of a figure in a table: its line, and superior or inferior by its column.
+pub fn print_place(name: &[u8], line: u8, column: usize) {
+    io::write_all(STDOUT_FILENO, name);
+    io::write_all(STDOUT_FILENO, b", line ");
+    io::print_decimal(STDOUT_FILENO, line as u64);
+    print_kind(column);
+}
+
+fn print_kind(column: usize) {
+    if column % 2 == 0 {
+        io::write_all(STDOUT_FILENO, b", superior, ");
+        return;
+    }
+    io::write_all(STDOUT_FILENO, b", inferior, ");
+}
+
+// The degrees of the t-th combustion temperature.
+pub fn print_combustion(t: usize) {
+    io::print_decimal(STDOUT_FILENO, combustion(t));
+}
+
+fn combustion(t: usize) -> u64 {
+    match t {
+        0 => 25,
+        1 => 20,
+        2 => 15,
+        _ => 0,
+    }
+}
