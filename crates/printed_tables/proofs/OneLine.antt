@@ -1,5 +1,5 @@
 -- The sums of a composition of one line.
-use mathlib.Core.Path.{_≡_, refl, ap}
+use mathlib.Core.Path.{refl, ap}
 use mathlib.Core.Bool.{Bool}
 use mathlib.Core.List.{[], _∷_}
 use mathlib.Core.Logic.{inl}

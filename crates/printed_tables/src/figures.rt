@@ -100,3 +100,21 @@ pub fn print_difference(printed: u64, calculated: u64, scale: u64)
     print_figure(calculated, scale);
     io::write_all(STDOUT_FILENO, b"\n");
 }
+
+// A figure and its place: its digits as printed, their scale, and as calculated. Where the two differ, it is printed.
+pub fn figure(counts: Counts, place: &[u8], printed: u64, scale: u64, calculated: u64) -> Counts
+    requires { ⌜ 0 < scale ⌝ }
+{
+    report(place, printed, scale, calculated);
+    counts.with(printed, calculated)
+}
+
+fn report(place: &[u8], printed: u64, scale: u64, calculated: u64)
+    requires { ⌜ 0 < scale ⌝ }
+{
+    if printed == calculated {
+        return;
+    }
+    io::write_all(STDOUT_FILENO, place);
+    print_difference(printed, calculated, scale);
+}

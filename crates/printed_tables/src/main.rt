@@ -2,12 +2,15 @@
 // figure that is not equal, with its place, how many are equal, one off in the last printed digit and neither, and what is printed in the
 // source and not compared.
 mod annex_d;
+mod example_gas;
 mod figures;
 mod per_cubic_metre;
 mod per_kilogram;
+mod places;
 mod single;
 mod table_4;
 mod table_5;
+mod table_d1;
 
 fn main() {
     let table = components::component_table();

@@ -4,6 +4,7 @@ ghost use Prim.Native.Nat.{_≤_, _<_};
 ghost use Rattle.components.specs.Table.{componentTable};
 use super::figures;
 use super::figures::Counts;
+use super::places;
 use super::single;
 use super::table_5;
 use libc::STDOUT_FILENO;
@@ -73,8 +74,8 @@ fn report(line: u8, column: usize, printed: u64, calculated: u64) {
         return;
     }
     let pair = column / 2;
-    single::print_place(b"table 5", line, column);
-    single::print_combustion(combustion_place(pair));
+    places::print_place(b"table 5", line, column);
+    places::print_combustion(combustion_place(pair));
     io::write_all(STDOUT_FILENO, b"/");
     io::print_decimal(STDOUT_FILENO, metering(pair) as u64);
     figures::print_difference(printed, calculated, scale(line));

@@ -5,6 +5,7 @@ ghost use Rattle.rounding.specs.Near.{near};
 ghost use Rattle.components.specs.Table.{componentTable};
 use super::figures;
 use super::figures::Counts;
+use super::places;
 use super::single;
 use super::table_4;
 use libc::STDOUT_FILENO;
@@ -48,8 +49,8 @@ fn report(line: u8, column: usize, printed: u64, calculated: u64) {
     if printed == calculated {
         return;
     }
-    single::print_place(b"table 4", line, column);
-    single::print_combustion(column / 2);
+    places::print_place(b"table 4", line, column);
+    places::print_combustion(column / 2);
     figures::print_difference(printed, calculated, scale(line));
 }
 

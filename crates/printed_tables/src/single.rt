@@ -4,7 +4,11 @@ ghost use Prim.Native.Nat.{_*_, _≤_, _<_};
 ghost use lib.IntN.{natAbs};
 ghost use Rattle.components.specs.Table.{componentTable};
 use components::Sums;
-use libc::STDOUT_FILENO;
+
+// The places of h and s at 15 °C.
+pub const H_15: usize = 2;
+
+pub const S_15: usize = 1;
 
 // The sums of one line at a fraction.
 pub fn sums(table: &[[i32; 12]; 55], line: u8, fraction: u32, t: usize, k: usize) -> Sums
@@ -29,34 +33,4 @@ pub fn heat(table: &[[i32; 12]; 55], line: u8, t: usize, column: usize) -> u64
         return sums.superior;
     }
     sums.inferior
-}
-
-// The place of a figure in a table: its line, and superior or inferior by its column.
-pub fn print_place(name: &[u8], line: u8, column: usize) {
-    io::write_all(STDOUT_FILENO, name);
-    io::write_all(STDOUT_FILENO, b", line ");
-    io::print_decimal(STDOUT_FILENO, line as u64);
-    print_kind(column);
-}
-
-fn print_kind(column: usize) {
-    if column % 2 == 0 {
-        io::write_all(STDOUT_FILENO, b", superior, ");
-        return;
-    }
-    io::write_all(STDOUT_FILENO, b", inferior, ");
-}
-
-// The degrees of the t-th combustion temperature.
-pub fn print_combustion(t: usize) {
-    io::print_decimal(STDOUT_FILENO, combustion(t));
-}
-
-fn combustion(t: usize) -> u64 {
-    match t {
-        0 => 25,
-        1 => 20,
-        2 => 15,
-        _ => 0,
-    }
 }

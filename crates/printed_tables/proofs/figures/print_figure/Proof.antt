@@ -1,5 +1,4 @@
 -- Each place is a tenth of the one before.
-use Prim.Native.Nat.{_≤_}
 use borrow.Author.Needs.{needs}
 use Rattle.printed_tables.proofs.figures.print_figure.Statement.{statement}
 use Rattle.printed_tables.proofs.figures.print_figure.Tie as tie

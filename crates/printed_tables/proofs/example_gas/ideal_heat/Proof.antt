@@ -3,8 +3,8 @@ use Prim.Native.Nat.{_≤_}
 use native.Mathlib.Omega.{arith}
 use borrow.Author.Needs.{needs}
 use Rattle.properties.proofs.StepBounds.{temperature-low, ideal-calorific-high}
-use Rattle.printed_tables.proofs.annex_d.ideal_heat.Statement.{statement}
-use Rattle.printed_tables.proofs.annex_d.ideal_heat.Tie as tie
+use Rattle.printed_tables.proofs.example_gas.ideal_heat.Statement.{statement}
+use Rattle.printed_tables.proofs.example_gas.ideal_heat.Tie as tie
 
 high : (c : tie.After-ideal-calorific-value) → c .ideal-calorific-value .result ≤ 175000000
 high c =

@@ -2,8 +2,8 @@
 use native.Mathlib.Omega.{arith}
 use borrow.Author.Needs.{needs}
 use Rattle.rounding.proofs.SignedWords.{cast-pos, opposite-fits, opposite-is, value-is}
-use Rattle.printed_tables.proofs.annex_d.size.Statement.{statement}
-use Rattle.printed_tables.proofs.annex_d.size.Tie as tie
+use Rattle.printed_tables.proofs.example_gas.size.Statement.{statement}
+use Rattle.printed_tables.proofs.example_gas.size.Tie as tie
 
 sub-result : tie.Need-sub-result
 sub-result c = let s = c .before in opposite-fits _ (s .fits .n) (omega (arith, s .pre)) (c .if1 .taken)

@@ -3,8 +3,8 @@ use Prim.Native.Nat.{_≤_}
 use native.Mathlib.Omega.{arith}
 use borrow.Author.Needs.{needs}
 use Rattle.properties.proofs.StepBounds.{ideal-relative-low, ideal-relative-high}
-use Rattle.printed_tables.proofs.annex_d.ideal_relative.Statement.{statement}
-use Rattle.printed_tables.proofs.annex_d.ideal_relative.Tie as tie
+use Rattle.printed_tables.proofs.example_gas.ideal_relative.Statement.{statement}
+use Rattle.printed_tables.proofs.example_gas.ideal_relative.Tie as tie
 
 module _ (c : tie.After-ideal-relative-density) where
   low : 27590000 ≤ c .ideal-relative-density .result

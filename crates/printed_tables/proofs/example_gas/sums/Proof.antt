@@ -5,8 +5,8 @@ use borrow.Author.Needs.{needs}
 use lib.IntN.{natAbs}
 use Rattle.components.specs.Table.{superior}
 use Rattle.printed_tables.proofs.ExampleGas.{composition, sums-bounded}
-use Rattle.printed_tables.proofs.annex_d.gas.Statement.{statement}
-use Rattle.printed_tables.proofs.annex_d.gas.Tie as tie
+use Rattle.printed_tables.proofs.example_gas.sums.Statement.{statement}
+use Rattle.printed_tables.proofs.example_gas.sums.Tie as tie
 
 slice-aggregate-sums-of : tie.Need-slice-aggregate-sums-of
 slice-aggregate-sums-of c = search needs
@@ -27,6 +27,6 @@ returns c =
       ),
     )
 
-pub gas-spec : {M : Type 1} → statement M
-gas-spec =
+pub sums-spec : {M : Type 1} → statement M
+sums-spec =
     tie.close (tie.spec slice-aggregate-sums-of slice-aggregate-sums-of-2 sums-of-requires returns)

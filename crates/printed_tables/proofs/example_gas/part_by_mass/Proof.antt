@@ -4,8 +4,8 @@ use native.Mathlib.Nat.{mul-le-mul}
 use native.Mathlib.Omega.{arith}
 use borrow.Author.Needs.{needs}
 use Rattle.rounding.proofs.NearLaws.{near-half, at-most}
-use Rattle.printed_tables.proofs.annex_d.part_by_mass.Statement.{statement}
-use Rattle.printed_tables.proofs.annex_d.part_by_mass.Tie as tie
+use Rattle.printed_tables.proofs.example_gas.part_by_mass.Statement.{statement}
+use Rattle.printed_tables.proofs.example_gas.part_by_mass.Tie as tie
 
 module _ (c : tie.After-digits) where
   abbrev start : tie.Start

@@ -2,8 +2,8 @@
 use native.Mathlib.Nat.{mul-le-mul}
 use native.Mathlib.Omega.{arith}
 use borrow.Author.Needs.{needs}
-use Rattle.printed_tables.proofs.annex_d.part_by_volume.Statement.{statement}
-use Rattle.printed_tables.proofs.annex_d.part_by_volume.Tie as tie
+use Rattle.printed_tables.proofs.example_gas.part_by_volume.Statement.{statement}
+use Rattle.printed_tables.proofs.example_gas.part_by_volume.Tie as tie
 
 sums-requires : tie.Need-sums-requires
 sums-requires c κs = search needs
