@@ -11,7 +11,7 @@ ghost use Rattle.properties.specs.Chain.{sixOf, propertiesOf};
 ghost use Rattle.properties.specs.Answers.{numbers, meaning};
 
 pub mod quantities;
-mod steps;
+pub mod steps;
 mod sums;
 
 use quantities::CalorificValue;

@@ -65,7 +65,7 @@ fn real(ideal: u64, z: CompressionFactor) -> u64
 
 // 3. The ideal calorific value, J/m³.
 pub fn ideal_calorific_value(hm: u64, divisor: u64) -> u64
-    requires { ⌜ (hm ≤ 3900000000000) × (0 < divisor) ⌝ }
+    requires { ⌜ (hm ≤ 10000000000000) × (0 < divisor) ⌝ }
     ensures { λ r. ⌜ r ≡ idealCalorific hm divisor ⌝ }
 {
     rounding::nearest(hm * 1013250, divisor)
@@ -79,20 +79,36 @@ pub fn calorific_value(hm: u64, divisor: u64, z: CompressionFactor) -> Calorific
     CalorificValue::new(real(ideal_calorific_value(hm, divisor), z))
 }
 
-// 4. The density.
+// 4. The ideal density, unit 10^-8 kg/m³.
+pub fn ideal_density(m: u64, divisor: u64) -> u64
+    requires { ⌜ (m ≤ 1500000000000) × (0 < divisor) ⌝ }
+    ensures { λ r. ⌜ r ≡ idealDensity m divisor ⌝ }
+{
+    rounding::nearest(m * 10132500, divisor)
+}
+
+// The density.
 pub fn density(m: u64, divisor: u64, z: CompressionFactor) -> Density
     requires { ⌜ (m ≤ 800000000000) × (831451 * 27315 ≤ divisor) × (724000000 ≤ z .value) ⌝ }
     ensures { λ r. ⌜ r .value ≡ real (idealDensity m divisor) (z .value) ⌝ }
 {
-    Density::new(real(rounding::nearest(m * 10132500, divisor), z))
+    Density::new(real(ideal_density(m, divisor), z))
 }
 
-// 5. The relative density.
+// 5. G, the ideal relative density, unit 10^-8; without the factor of air where `air` is 100,000.
+pub fn ideal_relative_density(m: u64, air: u64) -> u64
+    requires { ⌜ (m ≤ 1500000000000) × (air ≤ 100000) ⌝ }
+    ensures { λ r. ⌜ r ≡ idealRelative m air ⌝ }
+{
+    rounding::nearest(m * air, 289626000)
+}
+
+// The relative density.
 pub fn relative_density(m: u64, air: u64, z: CompressionFactor) -> RelativeDensity
     requires { ⌜ (m ≤ 800000000000) × (air ≤ 100000) × (724000000 ≤ z .value) ⌝ }
     ensures { λ r. ⌜ r .value ≡ real (idealRelative m air) (z .value) ⌝ }
 {
-    RelativeDensity::new(real(rounding::nearest(m * air, 289626000), z))
+    RelativeDensity::new(real(ideal_relative_density(m, air), z))
 }
 
 // 6. The Wobbe index.

@@ -6,24 +6,21 @@ use Rattle.properties.proofs.StepBounds.{ideal-density-high, step-high}
 use Rattle.properties.proofs.steps.density.Statement.{statement}
 use Rattle.properties.proofs.steps.density.Tie as tie
 
-mul-nearest : tie.Need-mul-nearest
-mul-nearest c = search needs
-
-nearest-requires : tie.Need-nearest-requires
-nearest-requires c κs = search needs
+ideal-density-requires : tie.Need-ideal-density-requires
+ideal-density-requires c κs = search needs
 
 real-requires : tie.Need-real-requires
 real-requires c κs =
     let b = c .before in
-    (omega (arith, c .nearest .ensures, ideal-density-high (b .args .m) (b .args .divisor) (b .pre .0) (b .pre .1)), omega (arith, b .pre .2))
+    (omega (arith, c .ideal-density .ensures, ideal-density-high (b .args .m) (b .args .divisor) (b .pre .0) (b .pre .1)), omega (arith, b .pre .2))
 
 new-requires : tie.Need-new-requires
 new-requires c κs =
     let b = c .before .before in
-    step-high 357000000 densityBound (c .before .nearest .ensures) (ideal-density-high (b .args .m) (b .args .divisor) (b .pre .0) (b .pre .1)) (b .pre .2) (c .real .ensures) (omega arith)
+    step-high 357000000 densityBound (c .before .ideal-density .ensures) (ideal-density-high (b .args .m) (b .args .divisor) (b .pre .0) (b .pre .1)) (b .pre .2) (c .real .ensures) (omega arith)
 
 returns : tie.Need-returns
 returns c = cc
 
 pub density-spec : {M : Type 1} → statement M
-density-spec = tie.close (tie.spec mul-nearest nearest-requires real-requires new-requires returns)
+density-spec = tie.close (tie.spec ideal-density-requires real-requires new-requires returns)

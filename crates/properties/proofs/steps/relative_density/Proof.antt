@@ -1,31 +1,27 @@
 -- The ideal and the real value are below their bounds.
 use borrow.Author.Needs.{needs}
 use native.Mathlib.Omega.{arith}
-use native.Mathlib.Nat.{mul-le-mul}
 use Rattle.properties.specs.Quantities.{relativeBound}
 use Rattle.properties.proofs.StepBounds.{ideal-relative-high, step-high}
 use Rattle.properties.proofs.steps.relative_density.Statement.{statement}
 use Rattle.properties.proofs.steps.relative_density.Tie as tie
 
-mul-nearest : tie.Need-mul-nearest
-mul-nearest c = record { fits = omega (arith, mul-le-mul (c .pre .0) (c .pre .1)) }
-
-nearest-requires : tie.Need-nearest-requires
-nearest-requires c κs = search needs
+ideal-relative-density-requires : tie.Need-ideal-relative-density-requires
+ideal-relative-density-requires c κs = search needs
 
 real-requires : tie.Need-real-requires
 real-requires c κs =
     let b = c .before in
-    (omega (arith, c .nearest .ensures, ideal-relative-high (b .args .m) (b .args .air) (b .pre .0) (b .pre .1)), omega (arith, b .pre .2))
+    (omega (arith, c .ideal-relative-density .ensures, ideal-relative-high (b .args .m) (b .args .air) (b .pre .0) (b .pre .1)), omega (arith, b .pre .2))
 
 new-requires : tie.Need-new-requires
 new-requires c κs =
     let b = c .before .before in
-    step-high 277000000 relativeBound (c .before .nearest .ensures) (ideal-relative-high (b .args .m) (b .args .air) (b .pre .0) (b .pre .1)) (b .pre .2) (c .real .ensures) (omega arith)
+    step-high 277000000 relativeBound (c .before .ideal-relative-density .ensures) (ideal-relative-high (b .args .m) (b .args .air) (b .pre .0) (b .pre .1)) (b .pre .2) (c .real .ensures) (omega arith)
 
 returns : tie.Need-returns
 returns c = cc
 
 pub relative-density-spec : {M : Type 1} → statement M
 relative-density-spec =
-    tie.close (tie.spec mul-nearest nearest-requires real-requires new-requires returns)
+    tie.close (tie.spec ideal-relative-density-requires real-requires new-requires returns)

@@ -1,0 +1,20 @@
+// Compares the figures that source document 002 prints in table 5, table 4 and annex D with those of the library's functions. Prints each
+// figure that is not equal, with its place, how many are equal, one off in the last printed digit and neither, and what is printed in the
+// source and not compared.
+mod annex_d;
+mod example_gas;
+mod figures;
+mod per_cubic_metre;
+mod per_kilogram;
+mod places;
+mod single;
+mod table_4;
+mod table_5;
+mod table_d1;
+
+fn main() {
+    let table = components::component_table();
+    per_cubic_metre::compare(&table);
+    per_kilogram::compare(&table);
+    annex_d::compare(&table);
+}
