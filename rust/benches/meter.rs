@@ -1,11 +1,14 @@
 //! Times 10,000,000 metering calls of the proved meter, an executable, against
-//! the same work with the plain meter, each in its own process.
+//! the same work with a plain meter, each in its own process. The proved meter
+//! is passed by value and returned, as document 01 has it; so is the plain one,
+//! and beside it stands the same work on a plain meter in place.
 //!
 //! `cargo bench --offline --bench meter [-- PATH]`
 
 #[path = "../tests/plain/mod.rs"]
 mod plain;
 
+use plain::Meter;
 use std::hint::black_box;
 use std::path::{Path, PathBuf};
 use std::process::{Command, ExitCode};
@@ -14,8 +17,10 @@ use std::time::Instant;
 /// The executable where no path is given; relative to the package folder.
 const PROVED: &str = "../target/bin/time_meter";
 
-/// The argument on which this program does the plain work itself.
-const PLAIN: &str = "--plain-meter";
+/// The arguments on which this program does the work itself: on a meter in
+/// place, and on a meter by value and returned.
+const IN_PLACE: &str = "--plain-meter-in-place";
+const BY_VALUE: &str = "--plain-meter-by-value";
 
 const RUNS: usize = 7;
 const STREAMS: usize = 16;
@@ -23,9 +28,11 @@ const CALLS: u64 = 10_000_000;
 
 fn main() -> ExitCode {
     let arguments: Vec<String> = std::env::args().skip(1).collect();
-    if arguments.iter().any(|argument| argument == PLAIN) {
-        print!("{}", plain_work());
-        return ExitCode::SUCCESS;
+    for (argument, work) in [(IN_PLACE, in_place as fn(_) -> _), (BY_VALUE, by_value)] {
+        if arguments.iter().any(|given| given == argument) {
+            print!("{}", readings(&work(analysed())));
+            return ExitCode::SUCCESS;
+        }
     }
     let path = arguments.iter().find(|argument| !argument.starts_with('-'));
     let path = path.map_or_else(|| PathBuf::from(PROVED), PathBuf::from);
@@ -48,20 +55,42 @@ fn analysis_of(stream: usize) -> [u8; 13] {
     record
 }
 
-/// The work with the plain meter: a line for each stream with its number,
-/// volume, MJ, rest and mean.
-fn plain_work() -> String {
-    let mut meter = plain::Meter::fresh();
+/// A meter with an analysis on each stream.
+fn analysed() -> Meter {
+    let mut meter = Meter::fresh();
     for stream in 0..STREAMS {
         let answer = meter.analysis(stream, &analysis_of(stream));
         answer.expect("the analysis is accepted");
     }
-    for i in 0..CALLS {
-        let stream = black_box(i as usize % STREAMS);
-        let volume = black_box(i % 1_000);
+    meter
+}
+
+/// The stream and the volume of a call, which the compiler does not foresee.
+fn call(i: u64) -> (usize, u64) {
+    black_box((i as usize % STREAMS, i % 1_000))
+}
+
+/// The calls on a meter in place.
+fn in_place(mut meter: Meter) -> Meter {
+    for (stream, volume) in (0..CALLS).map(call) {
         let answer = meter.metering(stream, volume);
         answer.expect("the volume is accepted");
     }
+    meter
+}
+
+/// The calls on a meter by value and returned.
+fn by_value(mut meter: Meter) -> Meter {
+    for (stream, volume) in (0..CALLS).map(call) {
+        let changed = meter.metering_by_value(stream, volume);
+        changed.answer.expect("the volume is accepted");
+        meter = changed.meter;
+    }
+    meter
+}
+
+/// A line for each stream with its number, volume, MJ, rest and mean.
+fn readings(meter: &Meter) -> String {
     let mut text = String::new();
     for stream in 0..STREAMS {
         let (volume, energy, rest) = meter.totals(stream).expect("the stream exists");
@@ -71,31 +100,36 @@ fn plain_work() -> String {
     text
 }
 
+/// Runs the sides in turn, each time another first, and prints their times.
 fn compare(path: &Path) -> Result<(), String> {
     let this = std::env::current_exe().map_err(|error| error.to_string())?;
-    let mut proved = Vec::new();
-    let mut plain = Vec::new();
+    let mut seconds = [const { Vec::new() }; 3];
+    let mut expected = None;
     for run in 0..RUNS {
-        let mut texts = [String::new(), String::new()];
-        for side in [run % 2, 1 - run % 2] {
-            let (seconds, text) = match side {
+        for turn in 0..3 {
+            let side = (run + turn) % 3;
+            let (taken, text) = match side {
                 0 => timed(&mut Command::new(path))?,
-                _ => timed(Command::new(&this).arg(PLAIN))?,
+                1 => timed(Command::new(&this).arg(BY_VALUE))?,
+                _ => timed(Command::new(&this).arg(IN_PLACE))?,
             };
-            [&mut proved, &mut plain][side].push(seconds);
-            texts[side] = text;
-        }
-        let [of_proved, of_plain] = texts;
-        if of_proved != of_plain {
-            return Err(format!(
-                "the texts differ\nproved:\n{of_proved}\nplain:\n{of_plain}"
-            ));
+            seconds[side].push(taken);
+            let first = expected.get_or_insert_with(|| text.clone());
+            if *first != text {
+                return Err(format!("the texts differ:\n{first}\nand\n{text}"));
+            }
         }
     }
     println!("{CALLS} metering calls, {RUNS} runs of each side, same text printed");
+    let [proved, by_value, in_place] = seconds;
     let proved = report("proved", proved);
-    let plain = report("plain", plain);
-    println!("ratio proved/plain {:.3}", proved / plain);
+    let by_value = report("plain, by value", by_value);
+    let in_place = report("plain, in place", in_place);
+    println!(
+        "ratio proved/plain: {:.3} by value, {:.3} in place",
+        proved / by_value,
+        proved / in_place
+    );
     Ok(())
 }
 
@@ -120,7 +154,7 @@ fn report(name: &str, mut seconds: Vec<f64>) -> f64 {
     seconds.sort_unstable_by(f64::total_cmp);
     let median = seconds[seconds.len() / 2];
     println!(
-        "{name:<6} median {:.2} ms, {:.2} to {:.2} ms, {:.2} ns for a call",
+        "{name:<16} median {:.2} ms, {:.2} to {:.2} ms, {:.2} ns for a call",
         median * 1e3,
         seconds[0] * 1e3,
         seconds[seconds.len() - 1] * 1e3,

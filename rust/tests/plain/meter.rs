@@ -27,9 +27,15 @@ struct Stream {
     rest: u64,
 }
 
-#[derive(Debug, Clone)]
+#[derive(Debug, Clone, Copy)]
 pub struct Meter {
     streams: [Stream; STREAMS],
+}
+
+/// A meter after a call that takes it by value, and the call's answer.
+pub struct Changed {
+    pub meter: Meter,
+    pub answer: Result<(), u8>,
 }
 
 impl Meter {
@@ -75,6 +81,15 @@ impl Meter {
         stream.energy += energy / MEGAJOULE;
         stream.rest = energy % MEGAJOULE;
         Ok(())
+    }
+
+    /// The same with the meter by value and returned, the form of the proved meter.
+    pub fn metering_by_value(mut self, stream: usize, volume: u64) -> Changed {
+        let answer = self.metering(stream, volume);
+        Changed {
+            meter: self,
+            answer,
+        }
     }
 
     /// Volume in dm³, energy in whole MJ and its rest in mJ.
