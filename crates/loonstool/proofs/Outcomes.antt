@@ -10,7 +10,7 @@ use Rattle.records.specs.Format.{contentsIn, bytesOf, placed}
 use Rattle.records.specs.Conditions.{recordOrder, writerOrder}
 use Rattle.records.proofs.OrderLaws.{decided-refused}
 use Rattle.properties.proofs.Outcomes.{number-of-refused}
-use Rattle.loonstool.specs.Exports.{numberOf, Returns, ZeroIsAccepted}
+use Rattle.loonstool.specs.Exports.{numberOf, Returns, ZeroSaysAccepted}
 
 module _ {A : Type 0} {outcome : Outcome A} (before : A) {number : ℕ} {after : A} where
   pub refusal : {n : ℕ} → refused n ≡ outcome → number ≡ n → after ≡ before → Returns outcome before number after
@@ -34,8 +34,8 @@ module _ {A : Type 0} {outcome : Outcome A} {before after : A} {v : Verdict} (g 
   pub gave-acceptance : v ≡ Accepted → number ≡ 0 → Returns outcome before number after
   gave-acceptance e z = gave (z ∙ ap (λ (w : Verdict). numberOf (meaning w after)) (sym e))
 
-pub zero-is-accepted : ZeroIsAccepted
-zero-is-accepted =
+pub zero-says-accepted : ZeroSaysAccepted
+zero-says-accepted =
     record {
       properties = λ bs e. number-of-refused bs 0 (sym e) .1 refl;
       reading = λ bs e. decided-refused (firstOf (recordOrder bs)) (contentsIn bs) 0 e .1 refl;

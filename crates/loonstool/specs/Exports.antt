@@ -24,7 +24,7 @@ module _ {A : Type 0} where
   NeverRefusedByZero outcome = outcome ≡ refused 0 → ⊥
 
 -- no call is refused with the number 0, so 0 says that it was accepted
-pub record ZeroIsAccepted : Type 0 where
+pub record ZeroSaysAccepted : Type 0 where
   pub properties : (bs : List ℕ) → NeverRefusedByZero (propertiesOf bs)
   pub reading : (bs : List ℕ) → NeverRefusedByZero (readingOf bs)
   pub writing : (k : Contents) (old : List ℕ) → NeverRefusedByZero (writingOf k old)
