@@ -10,7 +10,7 @@
 
 static int refused(const char *call, uint8_t number)
 {
-    fprintf(stderr, "example: %s refused %u\n", call, number);
+    fprintf(stderr, "example: %s refused %" PRIu8 "\n", call, number);
     return 1;
 }
 
@@ -41,8 +41,8 @@ int main(void)
     number = loonstool_read(record, sizeof record, &combustion, &metering, &count, read_lines, read_fractions);
     if (number != LOONSTOOL_ACCEPTED)
         return refused("loonstool_read", number);
-    printf("%u/%u, %zu entries\n", combustion, metering, count);
+    printf("%" PRIu8 "/%" PRIu8 ", %zu entries\n", combustion, metering, count);
     for (size_t i = 0; i < count; i++)
-        printf("line %u: %" PRIu32 " ppm\n", read_lines[i], read_fractions[i]);
+        printf("line %" PRIu8 ": %" PRIu32 " ppm\n", read_lines[i], read_fractions[i]);
     return 0;
 }

@@ -1,5 +1,6 @@
-/* Tries the library on bad input: null-length lists and buffers, unaligned bytes, records and buffers a byte short. Bytes that are lent
- * end where a page begins that may not be touched, so that a read or a write past them ends the program. */
+/* Tries the library on bad input: null-length lists and buffers, unaligned bytes, records and buffers a byte short and shorter. Whatever is
+ * lent, to be read or to be filled, ends where a page begins that may not be touched (but for the tests of unaligned bytes, which move it by
+ * a byte at a time), so that a read or a write past it ends the program. */
 #define _DEFAULT_SOURCE
 #include <stdio.h>
 #include <stdlib.h>
@@ -9,18 +10,27 @@
 
 #include "loonstool.h"
 
+_Static_assert(sizeof(struct loonstool_properties) == 6 * 8, "the library fills six numbers of 64 bits");
+_Static_assert(sizeof(struct loonstool_table) == 55 * 12 * 4, "the library fills 55 lines of twelve numbers of 32 bits");
+
 enum { K1_BYTES = LOONSTOOL_RECORD_BYTES(8), ROOM = 300 };
 
-static const uint8_t lines[8] = {1, 2, 3, 4, 5, 6, 52, 54};
-static const uint32_t fractions[8] = {924700, 35000, 9800, 2200, 3400, 600, 17500, 6800};
 static const struct loonstool_properties k1 = {997709976, 38959473, 35144879, 74087496, 60459367, 50105024};
 
 struct reading {
-    uint8_t combustion, metering;
-    size_t count;
     uint8_t lines[LOONSTOOL_LINES];
+    uint8_t combustion, metering;
     uint32_t fractions[LOONSTOOL_LINES];
+    size_t count;
 };
+
+/* What is lent to the calls, each at the end of a page of its own; for bytes, the end. */
+static uint8_t *lines;
+static uint32_t *fractions;
+static struct loonstool_table *table;
+static struct loonstool_properties *properties;
+static struct reading *reading;
+static uint8_t *bytes_end;
 
 static unsigned checks, failures;
 
@@ -45,107 +55,150 @@ static uint8_t *page_end(void)
     return pages + page;
 }
 
-static uint8_t read_into(const uint8_t *record, size_t length, struct reading *r)
+/* The last `size` bytes of a page. */
+static void *lent(size_t size)
 {
-    return loonstool_read(record, length, &r->combustion, &r->metering, &r->count, r->lines, r->fractions);
+    return page_end() - size;
+}
+
+static int all_are(const uint8_t *bytes, size_t length, uint8_t value)
+{
+    for (size_t i = 0; i < length; i++)
+        if (bytes[i] != value)
+            return 0;
+    return 1;
+}
+
+static uint8_t read_record(const uint8_t *bytes, size_t length)
+{
+    return loonstool_read(bytes, length, &reading->combustion, &reading->metering, &reading->count, reading->lines, reading->fractions);
+}
+
+static uint8_t write_k1(uint8_t *buffer, size_t length)
+{
+    return loonstool_write(15, 15, lines, 8, fractions, 8, buffer, length);
 }
 
 /* A record is refused by a number, and what was lent for the answer is as it was. */
-static void expect_refused(const uint8_t *record, size_t length, uint8_t number, const char *what)
+static void expect_refused(const uint8_t *bytes, size_t length, uint8_t number, const char *what)
 {
-    struct loonstool_properties p, p_before;
-    struct reading r, r_before;
-    memset(&p, 0xa5, sizeof p);
-    memset(&r, 0xa5, sizeof r);
-    p_before = p;
-    memcpy(&r_before, &r, sizeof r);
-    expect(loonstool_properties_of(record, length, &p) == number, what, length);
-    expect(memcmp(&p, &p_before, sizeof p) == 0, what, length);
-    expect(read_into(record, length, &r) == number, what, length);
-    expect(memcmp(&r, &r_before, sizeof r) == 0, what, length);
+    memset(properties, 0xa5, sizeof *properties);
+    memset(reading, 0xa5, sizeof *reading);
+    expect(loonstool_properties_of(bytes, length, properties) == number, what, length);
+    expect(loonstool_properties_with(table, bytes, length, properties) == number, what, length);
+    expect(read_record(bytes, length) == number, what, length);
+    expect(all_are((uint8_t *)properties, sizeof *properties, 0xa5), what, length);
+    expect(all_are((uint8_t *)reading, sizeof *reading, 0xa5), what, length);
 }
 
 /* The record of K1 is accepted where it stands. */
-static void expect_k1(const uint8_t *record, const char *what, size_t at)
+static void expect_k1(const uint8_t *bytes, const char *what, size_t at)
 {
-    struct loonstool_properties p;
-    struct reading r;
-    expect(loonstool_properties_of(record, K1_BYTES, &p) == LOONSTOOL_ACCEPTED, what, at);
-    expect(memcmp(&p, &k1, sizeof p) == 0, what, at);
-    expect(read_into(record, K1_BYTES, &r) == LOONSTOOL_ACCEPTED, what, at);
-    expect(r.combustion == 15 && r.metering == 15 && r.count == 8, what, at);
-    expect(memcmp(r.lines, lines, sizeof lines) == 0 && memcmp(r.fractions, fractions, sizeof fractions) == 0, what, at);
-    for (size_t i = 8; i < LOONSTOOL_LINES; i++)
-        expect(r.lines[i] == 0 && r.fractions[i] == 0, "0 past the entries", i);
+    expect(loonstool_properties_of(bytes, K1_BYTES, properties) == LOONSTOOL_ACCEPTED, what, at);
+    expect(memcmp(properties, &k1, sizeof k1) == 0, what, at);
+    memset(properties, 0xa5, sizeof *properties);
+    expect(loonstool_properties_with(table, bytes, K1_BYTES, properties) == LOONSTOOL_ACCEPTED, what, at);
+    expect(memcmp(properties, &k1, sizeof k1) == 0, what, at);
+    memset(reading, 0xa5, sizeof *reading);
+    expect(read_record(bytes, K1_BYTES) == LOONSTOOL_ACCEPTED, what, at);
+    expect(reading->combustion == 15 && reading->metering == 15 && reading->count == 8, what, at);
+    expect(memcmp(reading->lines, lines, 8) == 0 && memcmp(reading->fractions, fractions, 8 * 4) == 0, what, at);
+    expect(all_are(reading->lines + 8, LOONSTOOL_LINES - 8, 0), "0 past the entries", at);
+    expect(all_are((uint8_t *)(reading->fractions + 8), (LOONSTOOL_LINES - 8) * 4, 0), "0 past the entries", at);
 }
 
-/* The writer gives a number, and every byte of a buffer of `length` bytes that it does not fill is as it was. */
-static void expect_written(uint8_t *buffer, size_t length, uint8_t number, const uint8_t *record, const char *what)
+/* The writer gives a number for a buffer of `length` bytes, and every byte that it does not fill is as it was. */
+static void expect_written(uint8_t *buffer, size_t length, uint8_t number, const uint8_t *k1_bytes, const char *what)
 {
     size_t filled = number == LOONSTOOL_ACCEPTED ? K1_BYTES : 0;
     memset(buffer, 0x5a, length);
-    expect(loonstool_write(15, 15, lines, 8, fractions, 8, buffer, length) == number, what, length);
-    expect(memcmp(buffer, record, filled) == 0, what, length);
-    for (size_t i = filled; i < length; i++)
-        expect(buffer[i] == 0x5a, what, i);
+    expect(write_k1(buffer, length) == number, what, length);
+    expect(memcmp(buffer, k1_bytes, filled) == 0, what, length);
+    expect(all_are(buffer + filled, length - filled, 0x5a), what, length);
 }
 
 static void try_null_lengths(void)
 {
-    uint8_t buffer[ROOM];
-    expect_refused(NULL, 0, LOONSTOOL_TOO_SHORT, "a record of no bytes, at NULL");
-    expect_refused(buffer, 0, LOONSTOOL_TOO_SHORT, "a record of no bytes");
-    memset(buffer, 0x5a, sizeof buffer);
+    uint8_t *buffer = bytes_end - ROOM;
+    expect_refused(NULL, 0, LOONSTOOL_RECORD_SHORT, "a record of no bytes, at NULL");
+    expect_refused(bytes_end, 0, LOONSTOOL_RECORD_SHORT, "a record of no bytes");
+    memset(buffer, 0x5a, ROOM);
     expect(loonstool_write(15, 15, NULL, 0, NULL, 0, buffer, ROOM) == LOONSTOOL_COUNT_OUTSIDE, "no entries", 0);
     expect(loonstool_write(15, 15, lines, 8, NULL, 0, buffer, ROOM) == LOONSTOOL_LISTS_DIFFER, "no fractions", 0);
     expect(loonstool_write(15, 15, NULL, 0, fractions, 8, buffer, ROOM) == LOONSTOOL_LISTS_DIFFER, "no lines", 0);
-    expect(loonstool_write(15, 15, lines, 8, fractions, 8, NULL, 0) == LOONSTOOL_ROOM_SHORT, "no buffer", 0);
-    for (size_t i = 0; i < ROOM; i++)
-        expect(buffer[i] == 0x5a, "a refused write leaves the buffer", i);
+    expect(write_k1(NULL, 0) == LOONSTOOL_BUFFER_SHORT, "no buffer", 0);
+    expect(all_are(buffer, ROOM, 0x5a), "a refused write leaves the buffer", 0);
 }
 
-static void try_unaligned(const uint8_t *record, uint8_t *end)
+static void try_unaligned(const uint8_t *k1_bytes)
 {
     for (size_t at = 0; at < 16; at++) {
-        uint8_t *place = end - K1_BYTES - at;
-        memcpy(place, record, K1_BYTES);
+        uint8_t *place = bytes_end - K1_BYTES - at;
+        memcpy(place, k1_bytes, K1_BYTES);
         expect_k1(place, "a record at any address", at);
-        expect_written(place, K1_BYTES, LOONSTOOL_ACCEPTED, record, "a buffer at any address");
-        expect_written(place, K1_BYTES + at, LOONSTOOL_ACCEPTED, record, "a buffer with bytes to spare");
+        expect_written(place, K1_BYTES, LOONSTOOL_ACCEPTED, k1_bytes, "a buffer at any address");
+        expect_written(place, K1_BYTES + at, LOONSTOOL_ACCEPTED, k1_bytes, "a buffer with bytes to spare");
     }
 }
 
-static void try_short(const uint8_t *record, uint8_t *end)
+static void try_short(const uint8_t *k1_bytes)
 {
     for (size_t length = 0; length < K1_BYTES; length++) {
-        uint8_t *place = end - length;
-        uint8_t number = length < 8 ? LOONSTOOL_TOO_SHORT : LOONSTOOL_LENGTH_DIFFERS;
-        memcpy(place, record, length);
+        uint8_t *place = bytes_end - length;
+        uint8_t number = length < 8 ? LOONSTOOL_RECORD_SHORT : LOONSTOOL_LENGTH_DIFFERS;
+        memcpy(place, k1_bytes, length);
         expect_refused(place, length, number, "a record cut off");
-        expect_written(place, length, LOONSTOOL_ROOM_SHORT, record, "a buffer too short");
+        expect_written(place, length, LOONSTOOL_BUFFER_SHORT, k1_bytes, "a buffer too short");
     }
 }
 
-static void try_long(const uint8_t *record, uint8_t *end)
+static void try_long(const uint8_t *k1_bytes)
 {
     for (size_t more = 1; more <= ROOM; more++) {
-        uint8_t *place = end - K1_BYTES - more;
-        memcpy(place, record, K1_BYTES);
+        uint8_t *place = bytes_end - K1_BYTES - more;
+        memcpy(place, k1_bytes, K1_BYTES);
         memset(place + K1_BYTES, 0x5a, more);
         expect_refused(place, K1_BYTES + more, LOONSTOOL_LENGTH_DIFFERS, "a record with bytes after it");
     }
 }
 
+/* Methane alone at 25/20: the two temperatures are not exchanged. */
+static void try_pair(void)
+{
+    uint8_t *bytes = bytes_end - LOONSTOOL_RECORD_BYTES(1);
+    const uint8_t methane[1] = {1};
+    const uint32_t all[1] = {1000000};
+    expect(loonstool_write(25, 20, methane, 1, all, 1, bytes, LOONSTOOL_RECORD_BYTES(1)) == LOONSTOOL_ACCEPTED, "25/20", 0);
+    expect(bytes[5] == 25 && bytes[6] == 20, "25/20 in bytes 5 and 6", 0);
+    expect(read_record(bytes, LOONSTOOL_RECORD_BYTES(1)) == LOONSTOOL_ACCEPTED, "25/20 read", 0);
+    expect(reading->combustion == 25 && reading->metering == 20, "25/20 read", 0);
+}
+
+static void lend(void)
+{
+    const uint8_t k1_lines[8] = {1, 2, 3, 4, 5, 6, 52, 54};
+    const uint32_t k1_fractions[8] = {924700, 35000, 9800, 2200, 3400, 600, 17500, 6800};
+    lines = memcpy(lent(sizeof k1_lines), k1_lines, sizeof k1_lines);
+    fractions = memcpy(lent(sizeof k1_fractions), k1_fractions, sizeof k1_fractions);
+    table = lent(sizeof *table);
+    properties = lent(sizeof *properties);
+    reading = lent(sizeof *reading);
+    bytes_end = page_end();
+}
+
 int main(void)
 {
-    uint8_t record[K1_BYTES];
-    uint8_t *end = page_end();
-    expect(loonstool_write(15, 15, lines, 8, fractions, 8, record, K1_BYTES) == LOONSTOOL_ACCEPTED, "K1", 0);
-    expect_k1(record, "K1", 0);
+    uint8_t k1_bytes[K1_BYTES];
+    lend();
+    ((uint8_t *)table)[-1] = 0x5a;
+    loonstool_make_table(table);
+    expect(((uint8_t *)table)[-1] == 0x5a, "the byte before the table", 0);
+    expect(write_k1(k1_bytes, K1_BYTES) == LOONSTOOL_ACCEPTED, "K1", 0);
     try_null_lengths();
-    try_unaligned(record, end);
-    try_short(record, end);
-    try_long(record, end);
+    try_unaligned(k1_bytes);
+    try_short(k1_bytes);
+    try_long(k1_bytes);
+    try_pair();
     printf("%u checks, %u failed\n", checks, failures);
     return failures != 0;
 }

@@ -1,16 +1,30 @@
 /* Natural gas properties by ISO 6976:1995: the functions of target/staticlib/libloonstool.a, which `rt staticlib loonstool` writes.
  *
- * Each function gives LOONSTOOL_ACCEPTED or the number of its refusal, and nothing else: no call fails in another way, and after a
- * refusal the caller's memory is as it was. Each takes whatever numbers and bytes it is given. They keep nothing between calls, so
- * that calls may run at once in several threads on memory of their own. A call needs some 4 kB of stack, and memcpy.
+ * Each function but loonstool_make_table gives LOONSTOOL_ACCEPTED or the number of its refusal; after a refusal the caller's memory is as
+ * it was. Each takes whatever numbers and bytes it is given, loonstool_properties_with by a table as it was made. No call looks at more
+ * than 283 bytes of a record, so its time is bounded.
+ *
+ * A record, numbers least significant byte first: bytes 0 to 2 the mark "GCR", 3 and 4 the version, 1, 5 the combustion temperature and
+ * 6 the metering temperature in degrees Celsius, 7 the number of entries n, 1 to 55; then n entries of 5 bytes, the line number (1 byte)
+ * and the mole fraction in ppm (4 bytes), line numbers ascending, no fraction 0. The pairs that are permitted, combustion/metering: 15/15,
+ * 0/0, 15/0, 25/0, 20/20, 25/20. The fractions add up to 999,900 to 1,000,100; methane is at least 500,000, nitrogen at most 300,000, ethane
+ * and carbon dioxide 150,000 each, water 200, every other line but methane 50,000. The lines are those of table 1 of the standard (1 methane,
+ * 2 ethane, 42 water, 52 nitrogen, 54 carbon dioxide; all are named in crates/components/specs/Table.antt).
  *
  * What a caller has to see to, for every function:
  *   - a pointer to const points to as many elements as its length says, which nothing writes during the call. Where the length is 0,
  *     nothing is read, and the pointer may be NULL;
- *   - a pointer to what is filled points to memory that may be written, as much as the function says, and that is not NULL. For a
- *     buffer of length 0 it may be NULL;
+ *   - a pointer to what is filled points to memory that may be written, as much as the function says. It need not be initialised. It may
+ *     be NULL only for a buffer of length 0;
  *   - pointers are aligned as their type asks. Bytes have no alignment;
  *   - what is filled overlaps nothing else that is lent to the same call.
+ * The functions keep nothing between calls. They may run at once in several threads; what is only read, as a record or a table, may be
+ * shared, what is filled may not.
+ *
+ * The archive is for x86-64 alone: ELF, System V calling convention, SSE2 registers, 128 bytes below the stack pointer in use. Without an
+ * operating system SSE has to be switched on, and an interrupt handler leaves those 128 bytes and the xmm registers as they were. The one
+ * function that it needs is memcpy. Bytes of stack that a call takes, beside memcpy's own, are at most
+ *     loonstool_properties_of 3,500; loonstool_read 800; loonstool_properties_with 600; loonstool_make_table 400; loonstool_write 300.
  */
 #ifndef LOONSTOOL_H
 #define LOONSTOOL_H
@@ -18,38 +32,42 @@
 #include <stddef.h>
 #include <stdint.h>
 
+#if SIZE_MAX != UINT64_MAX
+#error "libloonstool.a is for x86-64"
+#endif
+
 #ifdef __cplusplus
 extern "C" {
 #endif
 
-/* The numbers that come back. 13 to 18 belong to the meter, which this library does not have yet. */
+/* The numbers that come back. 13 to 18 belong to the meter, and none of these functions gives them. */
 enum loonstool_number {
     LOONSTOOL_ACCEPTED = 0,
-    LOONSTOOL_TOO_SHORT = 1,        /* record shorter than 8 bytes */
-    LOONSTOOL_MARK_DIFFERS = 2,     /* mark differs */
-    LOONSTOOL_VERSION_DIFFERS = 3,  /* version is not 1 */
-    LOONSTOOL_PAIR_REFUSED = 4,     /* pair not permitted */
-    LOONSTOOL_COUNT_OUTSIDE = 5,    /* n is 0 or above 55 */
-    LOONSTOOL_LENGTH_DIFFERS = 6,   /* length is not 8 + 5n */
-    LOONSTOOL_LINE_BREAKS = 7,      /* a line number outside 1 to 55, or not above the one before */
-    LOONSTOOL_FRACTION_ZERO = 8,    /* a fraction is 0 */
-    LOONSTOOL_SUM_OUTSIDE = 9,      /* sum outside its range */
-    LOONSTOOL_METHANE_LOW = 10,     /* methane too low */
-    LOONSTOOL_ANY_ABOVE = 11,       /* a line other than methane and water above its limit */
-    LOONSTOOL_WATER_HIGH = 12,      /* water above 200 */
-    LOONSTOOL_STREAM_ABOVE = 13,    /* stream above 15 */
-    LOONSTOOL_PAIR_DIFFERS = 14,    /* pair is not the stream's */
-    LOONSTOOL_VOLUME_ABOVE = 15,    /* volume above 10,000,000 */
-    LOONSTOOL_NO_ANALYSIS = 16,     /* stream has no analysis */
-    LOONSTOOL_TOTAL_PASSES = 17,    /* volume total would pass 999,999,999,999 */
-    LOONSTOOL_TOTAL_ZERO = 18,      /* mean wanted at volume total 0 */
-    LOONSTOOL_LISTS_DIFFER = 19,    /* the two lists differ in length */
-    LOONSTOOL_ROOM_SHORT = 20       /* buffer shorter than 8 + 5n */
+    LOONSTOOL_RECORD_SHORT = 1,       /* record shorter than 8 bytes */
+    LOONSTOOL_MARK_DIFFERS = 2,       /* mark differs */
+    LOONSTOOL_VERSION_DIFFERS = 3,    /* version is not 1 */
+    LOONSTOOL_PAIR_NOT_PERMITTED = 4, /* pair not permitted */
+    LOONSTOOL_COUNT_OUTSIDE = 5,      /* n is 0 or above 55 */
+    LOONSTOOL_LENGTH_DIFFERS = 6,     /* length is not 8 + 5n */
+    LOONSTOOL_LINE_OUTSIDE = 7,       /* a line number outside 1 to 55, or not above the one before */
+    LOONSTOOL_FRACTION_ZERO = 8,      /* a fraction is 0 */
+    LOONSTOOL_SUM_OUTSIDE = 9,        /* sum outside its range */
+    LOONSTOOL_METHANE_LOW = 10,       /* methane too low */
+    LOONSTOOL_FRACTION_ABOVE = 11,    /* a line other than methane and water above its limit */
+    LOONSTOOL_WATER_HIGH = 12,        /* water above 200 */
+    LOONSTOOL_STREAM_ABOVE = 13,      /* stream above 15 */
+    LOONSTOOL_PAIR_DIFFERS = 14,      /* pair is not the stream's */
+    LOONSTOOL_VOLUME_ABOVE = 15,      /* volume above 10,000,000 */
+    LOONSTOOL_NO_ANALYSIS = 16,       /* stream has no analysis */
+    LOONSTOOL_TOTAL_PASSES = 17,      /* volume total would pass 999,999,999,999 */
+    LOONSTOOL_TOTAL_ZERO = 18,        /* mean wanted at volume total 0 */
+    LOONSTOOL_LISTS_DIFFER = 19,      /* the two lists differ in length */
+    LOONSTOOL_BUFFER_SHORT = 20       /* buffer shorter than 8 + 5n */
 };
 
 /* The lines of the component table, the most entries that a record has, and the bytes of a record with n entries. */
 #define LOONSTOOL_LINES 55
-#define LOONSTOOL_RECORD_BYTES(n) (8 + 5 * (size_t)(n))
+#define LOONSTOOL_RECORD_BYTES(n) (8 + 5 * (n))
 
 /* The six properties. None passes the ceiling beside it. */
 struct loonstool_properties {
@@ -63,7 +81,7 @@ struct loonstool_properties {
 
 /* The properties of a record of `length` bytes. Refused by 1 to 12. The component table is made anew on the stack for each accepted
  * record; loonstool_properties_with takes one that was made before. */
-uint8_t loonstool_properties_of(const uint8_t *record, size_t length, struct loonstool_properties *properties);
+uint8_t loonstool_properties_of(const uint8_t *bytes, size_t length, struct loonstool_properties *properties);
 
 /* The component table. */
 struct loonstool_table {
@@ -73,14 +91,14 @@ struct loonstool_table {
 /* Fills a component table, which may then be used for any number of calls. */
 void loonstool_make_table(struct loonstool_table *table);
 
-/* The same as loonstool_properties_of, with less stack and in less time. The table has to be one that loonstool_make_table filled and
- * nothing has written since. */
-uint8_t loonstool_properties_with(const struct loonstool_table *table, const uint8_t *record, size_t length,
+/* The same as loonstool_properties_of, with less stack and in less time. The table has to hold what loonstool_make_table filled in; a copy
+ * will do. With any other numbers nothing is promised: the call may end the program, or give LOONSTOOL_ACCEPTED and wrong properties. */
+uint8_t loonstool_properties_with(const struct loonstool_table *table, const uint8_t *bytes, size_t length,
                                   struct loonstool_properties *properties);
 
-/* Reads a record of `length` bytes: the pair of temperatures in °C, the number of entries, and their line numbers and mole fractions
- * in ppm. It fills all LOONSTOOL_LINES places of both arrays, with 0 past the entries. Refused by 1 to 12. */
-uint8_t loonstool_read(const uint8_t *record, size_t length, uint8_t *combustion, uint8_t *metering, size_t *count,
+/* Reads a record of `length` bytes: the pair of temperatures in degrees Celsius, the number of entries, and their line numbers and mole
+ * fractions in ppm. It fills all LOONSTOOL_LINES places of both arrays, with 0 past the entries. Refused by 1 to 12. */
+uint8_t loonstool_read(const uint8_t *bytes, size_t length, uint8_t *combustion, uint8_t *metering, size_t *count,
                        uint8_t lines[LOONSTOOL_LINES], uint32_t fractions[LOONSTOOL_LINES]);
 
 /* Writes a record of n entries into the first LOONSTOOL_RECORD_BYTES(n) bytes of a buffer, and no others, n being the length of both

@@ -1,4 +1,5 @@
-//! Links the static library that `rt staticlib loonstool` writes: from the folder that LOONSTOOL_LIB_DIR names, or ../target/staticlib.
+//! Links the static library that `rt staticlib loonstool` writes: from the folder that LOONSTOOL_LIB_DIR names by its whole path, or from
+//! ../target/staticlib.
 use std::env;
 use std::path::PathBuf;
 
@@ -9,9 +10,9 @@ fn main() {
         None => PathBuf::from(env!("CARGO_MANIFEST_DIR")).join("../target/staticlib"),
     };
     let archive = folder.join("libloonstool.a");
-    if !archive.is_file() {
+    if !folder.is_absolute() || !archive.is_file() {
         eprintln!(
-            "{} is missing: run `rt staticlib loonstool` in the repository, or set LOONSTOOL_LIB_DIR",
+            "{} is missing, or its path is not whole: run `rt staticlib loonstool` in the repository, or set LOONSTOOL_LIB_DIR",
             archive.display()
         );
         std::process::exit(1);

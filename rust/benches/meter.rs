@@ -1,7 +1,8 @@
 //! Times 10,000,000 metering calls of the proved meter, an executable, against
 //! the same work with a plain meter, each in its own process. The proved meter
-//! is passed by value and returned, as document 01 has it; so is the plain one,
-//! and beside it stands the same work on a plain meter in place.
+//! is passed by value and returned, as document 01 has it. So is the plain one,
+//! once with a call for each volume and once inlined, where the compiler finds
+//! that it can write in place; and last the plain meter is changed in place.
 //!
 //! `cargo bench --offline --bench meter [-- PATH]`
 
@@ -21,14 +22,23 @@ const PROVED: &str = "../target/bin/time_meter";
 /// place, and on a meter by value and returned.
 const IN_PLACE: &str = "--plain-meter-in-place";
 const BY_VALUE: &str = "--plain-meter-by-value";
+const BY_CALL: &str = "--plain-meter-by-call";
 
 const RUNS: usize = 7;
 const STREAMS: usize = 16;
 const CALLS: u64 = 10_000_000;
 
+/// The calls, on a meter with its analyses.
+type Work = fn(Meter) -> Meter;
+
 fn main() -> ExitCode {
     let arguments: Vec<String> = std::env::args().skip(1).collect();
-    for (argument, work) in [(IN_PLACE, in_place as fn(_) -> _), (BY_VALUE, by_value)] {
+    let works = [
+        (IN_PLACE, in_place as Work),
+        (BY_VALUE, by_value),
+        (BY_CALL, by_call),
+    ];
+    for (argument, work) in works {
         if arguments.iter().any(|given| given == argument) {
             print!("{}", readings(&work(analysed())));
             return ExitCode::SUCCESS;
@@ -89,6 +99,16 @@ fn by_value(mut meter: Meter) -> Meter {
     meter
 }
 
+/// The same where each is a call of its own.
+fn by_call(mut meter: Meter) -> Meter {
+    for (stream, volume) in (0..CALLS).map(call) {
+        let changed = meter.metering_by_call(stream, volume);
+        changed.answer.expect("the volume is accepted");
+        meter = changed.meter;
+    }
+    meter
+}
+
 /// A line for each stream with its number, volume, MJ, rest and mean.
 fn readings(meter: &Meter) -> String {
     let mut text = String::new();
@@ -103,14 +123,15 @@ fn readings(meter: &Meter) -> String {
 /// Runs the sides in turn, each time another first, and prints their times.
 fn compare(path: &Path) -> Result<(), String> {
     let this = std::env::current_exe().map_err(|error| error.to_string())?;
-    let mut seconds = [const { Vec::new() }; 3];
+    let mut seconds = [const { Vec::new() }; 4];
     let mut expected = None;
     for run in 0..RUNS {
-        for turn in 0..3 {
-            let side = (run + turn) % 3;
+        for turn in 0..4 {
+            let side = (run + turn) % 4;
             let (taken, text) = match side {
                 0 => timed(&mut Command::new(path))?,
-                1 => timed(Command::new(&this).arg(BY_VALUE))?,
+                1 => timed(Command::new(&this).arg(BY_CALL))?,
+                2 => timed(Command::new(&this).arg(BY_VALUE))?,
                 _ => timed(Command::new(&this).arg(IN_PLACE))?,
             };
             seconds[side].push(taken);
@@ -121,15 +142,18 @@ fn compare(path: &Path) -> Result<(), String> {
         }
     }
     println!("{CALLS} metering calls, {RUNS} runs of each side, same text printed");
-    let [proved, by_value, in_place] = seconds;
-    let proved = report("proved", proved);
-    let by_value = report("plain, by value", by_value);
-    let in_place = report("plain, in place", in_place);
-    println!(
-        "ratio proved/plain: {:.3} by value, {:.3} in place",
-        proved / by_value,
-        proved / in_place
-    );
+    let [proved, by_call, by_value, in_place] = seconds;
+    let proved = report("proved, by value", proved);
+    for (name, seconds) in [
+        ("plain, by value, a call", by_call),
+        ("plain, by value, inlined", by_value),
+        ("plain, in place", in_place),
+    ] {
+        println!(
+            "    ratio proved/plain {:.3}",
+            proved / report(name, seconds)
+        );
+    }
     Ok(())
 }
 
@@ -154,7 +178,7 @@ fn report(name: &str, mut seconds: Vec<f64>) -> f64 {
     seconds.sort_unstable_by(f64::total_cmp);
     let median = seconds[seconds.len() / 2];
     println!(
-        "{name:<16} median {:.2} ms, {:.2} to {:.2} ms, {:.2} ns for a call",
+        "{name:<25} median {:.2} ms, {:.2} to {:.2} ms, {:.2} ns for a call",
         median * 1e3,
         seconds[0] * 1e3,
         seconds[seconds.len() - 1] * 1e3,

@@ -3,9 +3,14 @@
 //!
 //! `cargo bench --offline --bench ratio`
 
+#[path = "../tests/cases/mod.rs"]
+mod cases;
 #[path = "../tests/plain/mod.rs"]
 mod plain;
+#[path = "../tests/sides/mod.rs"]
+mod sides;
 
+use cases::{record, K1};
 use loonstool::{Properties, Refusal};
 use std::hint::black_box;
 use std::time::{Duration, Instant};
@@ -44,7 +49,7 @@ fn table(what: &str, proved: Side<Result<Properties, Refusal>>) -> Vec<String> {
         "answer", "proved ns", "plain ns", "ratio"
     );
     let mut slower = Vec::new();
-    for (name, record) in cases() {
+    for (name, record) in measured() {
         let answer = checked_answer(&record, proved);
         let figures = measure(&record, proved);
         println!(
@@ -58,20 +63,8 @@ fn table(what: &str, proved: Side<Result<Properties, Refusal>>) -> Vec<String> {
     slower
 }
 
-/// The gas of annex D, case K1.
-const ANNEX_D: [(u8, u32); 8] = [
-    (1, 924_700),
-    (2, 35_000),
-    (3, 9_800),
-    (4, 2_200),
-    (5, 3_400),
-    (6, 600),
-    (52, 17_500),
-    (54, 6_800),
-];
-
-fn cases() -> [(&'static str, Vec<u8>); 4] {
-    let annex_d = record(&ANNEX_D);
+fn measured() -> [(&'static str, Vec<u8>); 4] {
+    let annex_d = record(15, 15, &K1);
     let mut mark_differs = annex_d.clone();
     mark_differs[0] ^= 1;
     [
@@ -80,17 +73,6 @@ fn cases() -> [(&'static str, Vec<u8>); 4] {
         ("refused early, mark differs", mark_differs),
         ("refused late, K1 with water 201", wet()),
     ]
-}
-
-/// A record at 15/15.
-fn record(entries: &[(u8, u32)]) -> Vec<u8> {
-    let mut bytes = b"GCR\x01\x00\x0F\x0F".to_vec();
-    bytes.push(entries.len() as u8);
-    for (line, fraction) in entries {
-        bytes.push(*line);
-        bytes.extend(fraction.to_le_bytes());
-    }
-    bytes
 }
 
 /// 200 of water, 1,000 of every other line but methane, methane the rest.
@@ -102,29 +84,21 @@ fn all_lines() -> Vec<u8> {
             _ => (line, 1_000),
         })
         .collect();
-    record(&entries)
+    record(15, 15, &entries)
 }
 
 /// The gas of annex D with 201 of its methane exchanged for water.
 fn wet() -> Vec<u8> {
-    let mut entries = ANNEX_D.to_vec();
+    let mut entries = K1.to_vec();
     entries[0].1 -= 201;
     entries.insert(6, (42, 201));
-    record(&entries)
+    record(15, 15, &entries)
 }
 
 /// The answer of both sides, which is the same.
 fn checked_answer(record: &[u8], proved: Side<Result<Properties, Refusal>>) -> String {
     let plain = plain::properties_of(record);
-    let proved = proved(record).map(|p| plain::Six {
-        z: p.z,
-        hs: p.hs,
-        hi: p.hi,
-        rho: p.rho,
-        d: p.d,
-        w: p.w,
-    });
-    assert_eq!(proved.map_err(|refusal| refusal.number()), plain);
+    assert_eq!(sides::six(proved(record)), plain);
     match plain {
         Ok(_) => String::from("six"),
         Err(number) => number.to_string(),

@@ -1,5 +1,5 @@
 //! Natural gas properties by ISO 6976:1995, from analysis records: safe functions over the proved static library (see
-//! `include/loonstool.h` in the repository).
+//! `include/loonstool.h` in the repository, which also has the format of a record and its limits). The library is for x86-64.
 //!
 //! The exported functions take whatever bytes and numbers they are given. What they require of a caller is that pointers are valid
 //! for their lengths, aligned, and that what is filled overlaps nothing else. Rust's slices and `&mut` have all of that. One requires
@@ -31,22 +31,34 @@ pub const fn record_bytes(entries: usize) -> usize {
     8 + 5 * entries
 }
 
-/// The six properties. None passes its ceiling.
+/// The six properties.
 #[derive(Debug, Clone, Copy, PartialEq, Eq)]
 #[repr(C)]
 pub struct Properties {
-    /// Compression factor, unit 10^-9, at most 1,000,000,000.
+    /// Compression factor, unit 10^-9.
     pub z: u64,
-    /// Superior calorific value, unit J/m³, at most 250,000,000.
+    /// Superior calorific value, unit J/m³.
     pub hs: u64,
-    /// Inferior calorific value, unit J/m³, at most 250,000,000.
+    /// Inferior calorific value, unit J/m³.
     pub hi: u64,
-    /// Density, unit 10^-8 kg/m³, at most 510,000,000.
+    /// Density, unit 10^-8 kg/m³.
     pub rho: u64,
-    /// Relative density, unit 10^-8, at most 390,000,000.
+    /// Relative density, unit 10^-8.
     pub d: u64,
-    /// Wobbe index, unit J/m³, at most 470,000,000.
+    /// Wobbe index, unit J/m³.
     pub w: u64,
+}
+
+impl Properties {
+    /// The ceilings, which no property passes.
+    pub const CEILINGS: Properties = Properties {
+        z: 1_000_000_000,
+        hs: 250_000_000,
+        hi: 250_000_000,
+        rho: 510_000_000,
+        d: 390_000_000,
+        w: 470_000_000,
+    };
 }
 
 /// What a record says: the pair of temperatures in °C, and `count` entries. Past the entries stands 0.
@@ -67,21 +79,20 @@ pub struct Analysis {
 /// The component table: a line has twelve columns.
 type Table = [[i32; 12]; LINES];
 
-extern "C" {
+extern "sysv64" {
     fn loonstool_make_table(table: *mut Table);
 
     fn loonstool_properties_with(
         table: *const Table,
-        record: *const u8,
+        bytes: *const u8,
         length: usize,
         properties: *mut Properties,
     ) -> u8;
 
-    fn loonstool_properties_of(record: *const u8, length: usize, properties: *mut Properties)
-        -> u8;
+    fn loonstool_properties_of(bytes: *const u8, length: usize, properties: *mut Properties) -> u8;
 
     fn loonstool_read(
-        record: *const u8,
+        bytes: *const u8,
         length: usize,
         combustion: *mut u8,
         metering: *mut u8,
@@ -105,11 +116,11 @@ extern "C" {
 /// The properties of a record. Refused by 1 to 12. The component table is made anew for each accepted record; [`Calculator`] makes it
 /// once.
 #[inline]
-pub fn properties_of(record: &[u8]) -> Result<Properties, Refusal> {
+pub fn properties_of(bytes: &[u8]) -> Result<Properties, Refusal> {
     let mut properties = MaybeUninit::uninit();
     // SAFETY: the slice is valid for its length, and `properties` is ours.
     let number =
-        unsafe { loonstool_properties_of(record.as_ptr(), record.len(), properties.as_mut_ptr()) };
+        unsafe { loonstool_properties_of(bytes.as_ptr(), bytes.len(), properties.as_mut_ptr()) };
     Refusal::unless_accepted(number)?;
     // SAFETY: an accepted call fills all six.
     Ok(unsafe { properties.assume_init() })
@@ -135,14 +146,14 @@ impl Calculator {
 
     /// The properties of a record, as [`properties_of`] gives them.
     #[inline]
-    pub fn properties_of(&self, record: &[u8]) -> Result<Properties, Refusal> {
+    pub fn properties_of(&self, bytes: &[u8]) -> Result<Properties, Refusal> {
         let mut properties = MaybeUninit::uninit();
         // SAFETY: the slice is valid for its length, `properties` is ours, and the table is as it was made: `new` alone writes it.
         let number = unsafe {
             loonstool_properties_with(
                 &self.table,
-                record.as_ptr(),
-                record.len(),
+                bytes.as_ptr(),
+                bytes.len(),
                 properties.as_mut_ptr(),
             )
         };
@@ -160,7 +171,7 @@ impl Default for Calculator {
 
 /// Reads a record. Refused by 1 to 12.
 #[inline]
-pub fn read(record: &[u8]) -> Result<Analysis, Refusal> {
+pub fn read(bytes: &[u8]) -> Result<Analysis, Refusal> {
     let mut analysis = Analysis {
         combustion: 0,
         metering: 0,
@@ -171,8 +182,8 @@ pub fn read(record: &[u8]) -> Result<Analysis, Refusal> {
     // SAFETY: the slice is valid for its length; the fields are ours, apart from each other, of the sizes that are filled.
     let number = unsafe {
         loonstool_read(
-            record.as_ptr(),
-            record.len(),
+            bytes.as_ptr(),
+            bytes.len(),
             &mut analysis.combustion,
             &mut analysis.metering,
             &mut analysis.count,

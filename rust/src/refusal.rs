@@ -16,9 +16,16 @@ macro_rules! refusals {
                 pub const $name: Refusal = Refusal { number: $number };
             )*
 
-            /// Every refusal with its name, in the order of the numbers. 13 to 18 belong to the meter, which the library does not
-            /// have yet.
+            /// Every refusal with its name, in the order of the numbers. 13 to 18 belong to the meter, and no function here gives them.
             pub const ALL: &'static [(&'static str, Refusal)] = &[$((stringify!($name), Refusal::$name)),*];
+
+            /// The name of its constant.
+            pub const fn name(self) -> &'static str {
+                match self.number {
+                    $($number => stringify!($name),)*
+                    _ => "unknown",
+                }
+            }
 
             /// The condition that holds.
             pub const fn condition(self) -> &'static str {
@@ -32,17 +39,17 @@ macro_rules! refusals {
 }
 
 refusals! {
-    1 TOO_SHORT "record shorter than 8 bytes";
+    1 RECORD_SHORT "record shorter than 8 bytes";
     2 MARK_DIFFERS "mark differs";
     3 VERSION_DIFFERS "version is not 1";
-    4 PAIR_REFUSED "pair not permitted";
+    4 PAIR_NOT_PERMITTED "pair not permitted";
     5 COUNT_OUTSIDE "n is 0 or above 55";
     6 LENGTH_DIFFERS "length is not 8 + 5n";
-    7 LINE_BREAKS "a line number outside 1 to 55, or not above the one before";
+    7 LINE_OUTSIDE "a line number outside 1 to 55, or not above the one before";
     8 FRACTION_ZERO "a fraction is 0";
     9 SUM_OUTSIDE "sum outside its range";
     10 METHANE_LOW "methane too low";
-    11 ANY_ABOVE "a line other than methane and water above its limit";
+    11 FRACTION_ABOVE "a line other than methane and water above its limit";
     12 WATER_HIGH "water above 200";
     13 STREAM_ABOVE "stream above 15";
     14 PAIR_DIFFERS "pair is not the stream's";
@@ -51,7 +58,7 @@ refusals! {
     17 TOTAL_PASSES "volume total would pass 999,999,999,999";
     18 TOTAL_ZERO "mean wanted at volume total 0";
     19 LISTS_DIFFER "the two lists differ in length";
-    20 ROOM_SHORT "buffer shorter than 8 + 5n";
+    20 BUFFER_SHORT "buffer shorter than 8 + 5n";
 }
 
 impl Refusal {

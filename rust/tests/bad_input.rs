@@ -1,22 +1,43 @@
-//! The library on bad input: empty lists and buffers, unaligned bytes, records and buffers a byte short; and the header's numbers.
-use loonstool::{properties_of, read, record_bytes, write, Analysis, Properties, Refusal};
+//! The library on bad input: empty lists and buffers, unaligned bytes, records and buffers a byte short; and each refusal by its name.
 
-const LINES: [u8; 8] = [1, 2, 3, 4, 5, 6, 52, 54];
-const FRACTIONS: [u32; 8] = [924700, 35000, 9800, 2200, 3400, 600, 17500, 6800];
-const BYTES: usize = record_bytes(8);
-const K1: Properties = Properties {
-    z: 997709976,
-    hs: 38959473,
-    hi: 35144879,
-    rho: 74087496,
-    d: 60459367,
-    w: 50105024,
+mod cases;
+
+use cases::{K1, K1_PROPERTIES};
+use loonstool::{
+    properties_of, read, record_bytes, write, Analysis, Calculator, Properties, Refusal,
 };
+
+const BYTES: usize = record_bytes(8);
+
+fn lines() -> [u8; 8] {
+    K1.map(|(line, _)| line)
+}
+
+fn fractions() -> [u32; 8] {
+    K1.map(|(_, fraction)| fraction)
+}
+
+fn write_k1(buffer: &mut [u8]) -> Result<usize, Refusal> {
+    write(15, 15, &lines(), &fractions(), buffer)
+}
 
 fn k1_record() -> [u8; BYTES] {
     let mut record = [0; BYTES];
-    assert_eq!(write(15, 15, &LINES, &FRACTIONS, &mut record), Ok(BYTES));
+    assert_eq!(write_k1(&mut record), Ok(BYTES));
+    assert_eq!(record[..], cases::record(15, 15, &K1));
     record
+}
+
+fn k1_properties() -> Properties {
+    let [z, hs, hi, rho, d, w] = K1_PROPERTIES;
+    Properties {
+        z,
+        hs,
+        hi,
+        rho,
+        d,
+        w,
+    }
 }
 
 fn k1_analysis() -> Analysis {
@@ -27,8 +48,8 @@ fn k1_analysis() -> Analysis {
         lines: [0; 55],
         fractions: [0; 55],
     };
-    analysis.lines[..8].copy_from_slice(&LINES);
-    analysis.fractions[..8].copy_from_slice(&FRACTIONS);
+    analysis.lines[..8].copy_from_slice(&lines());
+    analysis.fractions[..8].copy_from_slice(&fractions());
     analysis
 }
 
@@ -40,12 +61,13 @@ fn expect_refused(record: &[u8], refusal: Refusal) {
         record.len()
     );
     assert_eq!(read(record), Err(refusal), "{} bytes", record.len());
+    assert_eq!(Calculator::new().properties_of(record), Err(refusal));
 }
 
 /// Writes K1 into a buffer of 0x5a, and sees that every byte that is not filled is as it was.
 fn expect_written(buffer: &mut [u8], expected: Result<usize, Refusal>) {
     buffer.fill(0x5a);
-    assert_eq!(write(15, 15, &LINES, &FRACTIONS, buffer), expected);
+    assert_eq!(write_k1(buffer), expected);
     let filled = expected.unwrap_or(0);
     assert_eq!(buffer[..filled], k1_record()[..filled]);
     assert!(buffer[filled..].iter().all(|&byte| byte == 0x5a));
@@ -53,22 +75,22 @@ fn expect_written(buffer: &mut [u8], expected: Result<usize, Refusal>) {
 
 #[test]
 fn empty_slices() {
-    expect_refused(&[], Refusal::TOO_SHORT);
+    expect_refused(&[], Refusal::RECORD_SHORT);
     let mut buffer = [0x5a; 300];
     assert_eq!(
         write(15, 15, &[], &[], &mut buffer),
         Err(Refusal::COUNT_OUTSIDE)
     );
     assert_eq!(
-        write(15, 15, &LINES, &[], &mut buffer),
+        write(15, 15, &lines(), &[], &mut buffer),
         Err(Refusal::LISTS_DIFFER)
     );
     assert_eq!(
-        write(15, 15, &[], &FRACTIONS, &mut buffer),
+        write(15, 15, &[], &fractions(), &mut buffer),
         Err(Refusal::LISTS_DIFFER)
     );
     assert_eq!(buffer, [0x5a; 300]);
-    expect_written(&mut [], Err(Refusal::ROOM_SHORT));
+    expect_written(&mut [], Err(Refusal::BUFFER_SHORT));
 }
 
 #[test]
@@ -77,7 +99,8 @@ fn unaligned_bytes() {
     for at in 0..16 {
         let record = &mut place[at..at + BYTES];
         record.copy_from_slice(&k1_record());
-        assert_eq!(properties_of(record), Ok(K1));
+        assert_eq!(properties_of(record), Ok(k1_properties()));
+        assert_eq!(Calculator::new().properties_of(record), Ok(k1_properties()));
         assert_eq!(read(record), Ok(k1_analysis()));
         expect_written(record, Ok(BYTES));
         expect_written(&mut place[at..], Ok(BYTES));
@@ -90,12 +113,12 @@ fn a_byte_short_and_shorter() {
     let mut buffer = [0; BYTES];
     for length in 0..BYTES {
         let refusal = if length < 8 {
-            Refusal::TOO_SHORT
+            Refusal::RECORD_SHORT
         } else {
             Refusal::LENGTH_DIFFERS
         };
         expect_refused(&record[..length], refusal);
-        expect_written(&mut buffer[..length], Err(Refusal::ROOM_SHORT));
+        expect_written(&mut buffer[..length], Err(Refusal::BUFFER_SHORT));
     }
 }
 
@@ -108,31 +131,31 @@ fn longer() {
     }
 }
 
-/// The header has the same names and numbers, and no others.
+/// K1 with a byte changed.
+fn changed(at: usize, byte: u8) -> [u8; BYTES] {
+    let mut record = k1_record();
+    record[at] = byte;
+    record
+}
+
 #[test]
-fn numbers_of_the_header() {
-    let header = include_str!("../../include/loonstool.h");
-    let in_header: Vec<(&str, u8)> = header
-        .lines()
-        .filter_map(|line| {
-            let (name, rest) = line.trim().strip_prefix("LOONSTOOL_")?.split_once(" = ")?;
-            let digits = rest.split(|c: char| !c.is_ascii_digit()).next()?;
-            Some((name, digits.parse().ok()?))
-        })
-        .filter(|&(name, _)| name != "ACCEPTED")
-        .collect();
-    let here: Vec<(&str, u8)> = Refusal::ALL
-        .iter()
-        .map(|&(name, refusal)| (name, refusal.number()))
-        .collect();
-    assert_eq!(in_header, here);
-    assert_eq!(here.len(), 20);
-    for &(_, refusal) in Refusal::ALL {
-        assert!(
-            header.contains(&format!("/* {} */", refusal.condition())),
-            "{refusal}"
-        );
-    }
+fn each_refusal_by_its_name() {
+    let gas = |entries: &[(u8, u32)]| cases::record(15, 15, entries);
+    expect_refused(&k1_record()[..7], Refusal::RECORD_SHORT);
+    expect_refused(&changed(0, b'g'), Refusal::MARK_DIFFERS);
+    expect_refused(&changed(4, 1), Refusal::VERSION_DIFFERS);
+    expect_refused(&changed(6, 20), Refusal::PAIR_NOT_PERMITTED);
+    expect_refused(&changed(7, 56), Refusal::COUNT_OUTSIDE);
+    expect_refused(&changed(7, 9), Refusal::LENGTH_DIFFERS);
+    expect_refused(&changed(8, 2), Refusal::LINE_OUTSIDE);
+    expect_refused(&gas(&[(1, 1_000_000), (2, 0)]), Refusal::FRACTION_ZERO);
+    expect_refused(&gas(&[(1, 999_899)]), Refusal::SUM_OUTSIDE);
+    expect_refused(&gas(&[(2, 1_000_000)]), Refusal::METHANE_LOW);
+    expect_refused(&gas(&[(1, 949_999), (55, 50_001)]), Refusal::FRACTION_ABOVE);
+    expect_refused(&gas(&[(1, 999_799), (42, 201)]), Refusal::WATER_HIGH);
+    let lists_differ = write(15, 15, &lines(), &fractions()[1..], &mut []);
+    assert_eq!(lists_differ, Err(Refusal::LISTS_DIFFER));
+    assert_eq!(write_k1(&mut [0; BYTES - 1]), Err(Refusal::BUFFER_SHORT));
 }
 
 #[test]

@@ -4,9 +4,10 @@
 
 mod plain;
 mod records;
+mod sides;
 
-use loonstool::Calculator;
-use records::{case, Draft, Random, WriterCall, PAIRS};
+use loonstool::{Calculator, Properties};
+use records::{case, limit, Draft, Random, WriterCall, LEAST_METHANE, PAIRS, SUM};
 use std::fmt::Write as _;
 use std::io::IsTerminal;
 use std::process::ExitCode;
@@ -131,6 +132,7 @@ struct Counts {
     write: [u64; 21],
     pairs: [u64; 6],
     lines: [u64; 56],
+    limits: Limits,
 }
 
 impl Counts {
@@ -141,6 +143,7 @@ impl Counts {
             write: [0; 21],
             pairs: [0; 6],
             lines: [0; 56],
+            limits: Limits::none(),
         }
     }
 
@@ -184,6 +187,8 @@ impl Counts {
         }
         let (line, count) = self.least_line();
         println!("least of the 55 lines in accepted records: line {line}, {count} times");
+        let (name, count) = self.limits.least();
+        println!("least of the limits, on it and one past it: {name}, {count} times");
     }
 
     /// What occurs less often than due, and what a call cannot give.
@@ -215,7 +220,72 @@ impl Counts {
         if count < due {
             failures.push(format!("line {line} only {count} times"));
         }
+        let (name, count) = self.limits.least();
+        if count < due.div_ceil(10) {
+            failures.push(format!("{name} only {count} times"));
+        }
         failures
+    }
+}
+
+/// How often a fraction or a sum was on a limit and one past it, in records
+/// that none of 1 to 8 refuses.
+struct Limits {
+    sums: [u64; 4],
+    /// For each line the limit and one past it; methane's is its least.
+    lines: [[u64; 2]; 56],
+}
+
+/// The sums on and one past their limits.
+const SUMS: [u64; 4] = [
+    SUM.0 as u64 - 1,
+    SUM.0 as u64,
+    SUM.1 as u64,
+    SUM.1 as u64 + 1,
+];
+
+impl Limits {
+    fn none() -> Self {
+        Self {
+            sums: [0; 4],
+            lines: [[0; 2]; 56],
+        }
+    }
+
+    fn book(&mut self, record: &[u8]) {
+        let mut sum = 0;
+        for entry in record[8..].chunks_exact(5) {
+            let fraction = u32::from_le_bytes([entry[1], entry[2], entry[3], entry[4]]);
+            let (on, past) = match entry[0] {
+                1 => (LEAST_METHANE, LEAST_METHANE - 1),
+                line => (limit(line), limit(line) + 1),
+            };
+            let counts = &mut self.lines[usize::from(entry[0])];
+            counts[0] += u64::from(fraction == on);
+            counts[1] += u64::from(fraction == past);
+            sum += u64::from(fraction);
+        }
+        for (count, limit) in self.sums.iter_mut().zip(SUMS) {
+            *count += u64::from(sum == limit);
+        }
+    }
+
+    /// What occurs least, and how often.
+    fn least(&self) -> (String, u64) {
+        let sums = SUMS
+            .iter()
+            .zip(self.sums)
+            .map(|(sum, count)| (format!("sum {sum}"), count));
+        let lines = (1..=55).flat_map(|line| {
+            let [on, past] = self.lines[line];
+            [
+                (format!("line {line} on its limit"), on),
+                (format!("line {line} one past its limit"), past),
+            ]
+        });
+        sums.chain(lines)
+            .min_by_key(|(_, count)| *count)
+            .unwrap_or_default()
     }
 }
 
@@ -235,24 +305,45 @@ fn compare_record(
     let shown = |call: &str| format!("{call}\nrecord: {}", hex(record));
 
     let expected = plain::properties_of(record);
-    let proved = loonstool::properties_of(record);
-    let proved = proved.map(six).map_err(|refusal| refusal.number());
+    let proved = sides::six(loonstool::properties_of(record));
     same(&expected, &proved, || shown("properties_of"))?;
     counts.properties[place(&expected)] += 1;
 
-    let proved = calculator.properties_of(record);
-    let proved = proved.map(six).map_err(|refusal| refusal.number());
+    let proved = sides::six(calculator.properties_of(record));
     same(&expected, &proved, || shown("Calculator::properties_of"))?;
+    if let Ok(six) = &expected {
+        within_ceilings(six).map_err(|name| shown(&format!("properties_of, ceiling of {name}")))?;
+    }
 
     let expected = plain::read(record);
-    let proved = loonstool::read(record);
-    let proved = proved.map(composition).map_err(|refusal| refusal.number());
+    let proved = sides::composition(loonstool::read(record));
     same(&expected, &proved, || shown("read"))?;
     counts.read[place(&expected)] += 1;
 
+    if matches!(expected, Ok(_) | Err(9..)) {
+        counts.limits.book(record);
+    }
     if let Ok(composition) = expected {
         counts.book(&composition);
         write_back(record, &composition, counts)?;
+    }
+    Ok(())
+}
+
+/// The name of a property that passes its ceiling, if one does.
+fn within_ceilings(six: &plain::Six) -> Result<(), &'static str> {
+    let ceilings = Properties::CEILINGS;
+    for (name, value, ceiling) in [
+        ("Z", six.z, ceilings.z),
+        ("Hs", six.hs, ceilings.hs),
+        ("Hi", six.hi, ceilings.hi),
+        ("rho", six.rho, ceilings.rho),
+        ("d", six.d, ceilings.d),
+        ("W", six.w, ceilings.w),
+    ] {
+        if value > ceiling {
+            return Err(name);
+        }
     }
     Ok(())
 }
@@ -348,25 +439,4 @@ fn hex(bytes: &[u8]) -> String {
         let _ = write!(text, " {byte:02X}");
     }
     text
-}
-
-fn six(proved: loonstool::Properties) -> plain::Six {
-    plain::Six {
-        z: proved.z,
-        hs: proved.hs,
-        hi: proved.hi,
-        rho: proved.rho,
-        d: proved.d,
-        w: proved.w,
-    }
-}
-
-fn composition(proved: loonstool::Analysis) -> plain::Composition {
-    plain::Composition {
-        combustion: proved.combustion,
-        metering: proved.metering,
-        count: proved.count,
-        lines: proved.lines,
-        fractions: proved.fractions,
-    }
 }

@@ -1,35 +1,47 @@
-//! The paper's cases K1 to K10 and each refusal number once, on the plain
-//! implementation.
+//! Document 01's cases K1 to K8 and each refusal number of a record and the
+//! writer once, on the library and the plain version; K9, K10 and the meter's
+//! numbers on the plain version.
 
+mod cases;
 mod plain;
+mod sides;
 
+use cases::{record, K1, K1_PROPERTIES};
 use plain::table::TABLE;
-use plain::{properties_of, read, write, Meter};
-
-const K1: [(u8, u32); 8] = [
-    (1, 924_700),
-    (2, 35_000),
-    (3, 9_800),
-    (4, 2_200),
-    (5, 3_400),
-    (6, 600),
-    (52, 17_500),
-    (54, 6_800),
-];
+use plain::{Composition, Meter, Six};
 
 const K2: [u8; 13] = [
     0x47, 0x43, 0x52, 0x01, 0x00, 0x0F, 0x0F, 0x01, 0x01, 0x40, 0x42, 0x0F, 0x00,
 ];
 
-/// A record with the given pair and entries, unchecked.
-fn record(combustion: u8, metering: u8, entries: &[(u8, u32)]) -> Vec<u8> {
-    let mut bytes = b"GCR\x01\x00".to_vec();
-    bytes.extend([combustion, metering, entries.len() as u8]);
-    for (line, fraction) in entries {
-        bytes.push(*line);
-        bytes.extend(fraction.to_le_bytes());
-    }
-    bytes
+/// What both sides answer.
+fn properties_of(record: &[u8]) -> Result<Six, u8> {
+    let answer = plain::properties_of(record);
+    assert_eq!(sides::six(loonstool::properties_of(record)), answer);
+    let calculator = loonstool::Calculator::new();
+    assert_eq!(sides::six(calculator.properties_of(record)), answer);
+    answer
+}
+
+fn read(record: &[u8]) -> Result<Composition, u8> {
+    let answer = plain::read(record);
+    assert_eq!(sides::composition(loonstool::read(record)), answer);
+    answer
+}
+
+fn write(
+    combustion: u8,
+    metering: u8,
+    lines: &[u8],
+    fractions: &[u32],
+    out: &mut [u8],
+) -> Result<usize, u8> {
+    let mut of_library = out.to_vec();
+    let library = loonstool::write(combustion, metering, lines, fractions, &mut of_library);
+    let answer = plain::write(combustion, metering, lines, fractions, out);
+    assert_eq!(library.map_err(|refusal| refusal.number()), answer);
+    assert_eq!(of_library, out);
+    answer
 }
 
 /// The refusal number of a record with the pair 15/15, 0 where it is accepted.
@@ -46,12 +58,10 @@ fn refused_bytes(record: &[u8]) -> u8 {
 #[test]
 fn k1_annex_d() {
     let six = properties_of(&record(15, 15, &K1)).unwrap();
-    assert_eq!(six.z, 997_709_976);
-    assert_eq!(six.hs, 38_959_473);
-    assert_eq!(six.hi, 35_144_879);
-    assert_eq!(six.rho, 74_087_496);
-    assert_eq!(six.d, 60_459_367);
-    assert_eq!(six.w, 50_105_024);
+    assert_eq!(
+        [six.z, six.hs, six.hi, six.rho, six.d, six.w],
+        K1_PROPERTIES
+    );
 }
 
 #[test]

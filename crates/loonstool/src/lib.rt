@@ -29,13 +29,13 @@ fn in_order(p: Properties) -> [u64; 6]
 }
 
 // The number of an answer, and its properties into lent memory.
-fn give(answer: Answer, out: &mut [u64; 6]) -> u8
-    ensures { λ r. ⌜ Returns (mapped inOrder (meaning answer)) (now (out .entry)) r (now (out .exit)) ⌝ }
+fn give(answer: Answer, properties: &mut [u64; 6]) -> u8
+    ensures { λ r. ⌜ Returns (mapped inOrder (meaning answer)) (now (properties .entry)) r (now (properties .exit)) ⌝ }
 {
     match answer {
         Answer::Refused(number) => number,
         Answer::Accepted(p) => {
-            *out = in_order(p);
+            *properties = in_order(p);
             0
         }
     }
@@ -54,20 +54,20 @@ pub extern "C" fn loonstool_make_table(table: &mut [[i32; 12]; 55])
 pub extern "C" fn loonstool_properties_with(
     table: &[[i32; 12]; 55],
     bytes: &[u8],
-    out: &mut [u64; 6],
+    properties: &mut [u64; 6],
 ) -> u8
     requires { ⌜ now table ≡ componentTable ⌝ }
-    ensures { λ r. ⌜ Returns (mapped inOrder (propertiesOf (now (bytes .entry)))) (now (out .entry)) r (now (out .exit)) ⌝ }
+    ensures { λ r. ⌜ Returns (mapped inOrder (propertiesOf (now (bytes .entry)))) (now (properties .entry)) r (now (properties .exit)) ⌝ }
 {
-    give(properties::properties_with(table, bytes), out)
+    give(properties::properties_with(table, bytes), properties)
 }
 
 // Z, Hs, Hi, rho, d and W of a record.
 #[no_mangle]
-pub extern "C" fn loonstool_properties_of(bytes: &[u8], out: &mut [u64; 6]) -> u8
-    ensures { λ r. ⌜ Returns (mapped inOrder (propertiesOf (now (bytes .entry)))) (now (out .entry)) r (now (out .exit)) ⌝ }
+pub extern "C" fn loonstool_properties_of(bytes: &[u8], properties: &mut [u64; 6]) -> u8
+    ensures { λ r. ⌜ Returns (mapped inOrder (propertiesOf (now (bytes .entry)))) (now (properties .entry)) r (now (properties .exit)) ⌝ }
 {
-    give(properties::properties_of(bytes), out)
+    give(properties::properties_of(bytes), properties)
 }
 
 // Reads a record: the pair of temperatures in °C, the number of entries, and their line numbers and fractions, with 0 past them.
@@ -111,11 +111,11 @@ pub extern "C" fn loonstool_write(
     metering: u8,
     lines: &[u8],
     fractions: &[u32],
-    out: &mut [u8],
+    buffer: &mut [u8],
 ) -> u8
-    ensures { λ r. ⌜ Returns (writingOf (contents combustion metering (now (lines .entry)) (now (fractions .entry))) (now (out .entry))) (now (out .entry)) r (now (out .exit)) ⌝ }
+    ensures { λ r. ⌜ Returns (writingOf (contents combustion metering (now (lines .entry)) (now (fractions .entry))) (now (buffer .entry))) (now (buffer .entry)) r (now (buffer .exit)) ⌝ }
 {
-    match records::write(combustion, metering, lines, fractions, out) {
+    match records::write(combustion, metering, lines, fractions, buffer) {
         Verdict::Refused(number) => number,
         Verdict::Accepted => 0,
     }

@@ -27,7 +27,7 @@ struct Stream {
     rest: u64,
 }
 
-#[derive(Debug, Clone, Copy)]
+#[derive(Debug, Clone)]
 pub struct Meter {
     streams: [Stream; STREAMS],
 }
@@ -90,6 +90,12 @@ impl Meter {
             meter: self,
             answer,
         }
+    }
+
+    /// The same as a call of its own, as from another library.
+    #[inline(never)]
+    pub fn metering_by_call(self, stream: usize, volume: u64) -> Changed {
+        self.metering_by_value(stream, volume)
     }
 
     /// Volume in dm³, energy in whole MJ and its rest in mJ.

@@ -14,10 +14,10 @@ const WATER: u8 = 42;
 pub const PAIRS: [(u8, u8); 6] = [(15, 15), (0, 0), (15, 0), (25, 0), (20, 20), (25, 20)];
 
 /// Least and greatest permitted sum in ppm.
-const SUM: (u32, u32) = (999_900, 1_000_100);
+pub const SUM: (u32, u32) = (999_900, 1_000_100);
 
 /// Least permitted methane in ppm.
-const LEAST_METHANE: u32 = 500_000;
+pub const LEAST_METHANE: u32 = 500_000;
 
 /// A pair and two lists, permitted or not.
 #[derive(Debug, Clone, Default)]
@@ -36,7 +36,7 @@ pub struct WriterCall {
 }
 
 /// The greatest fraction of a line other than methane.
-fn limit(line: u8) -> u32 {
+pub fn limit(line: u8) -> u32 {
     match line {
         2 | 54 => 150_000,
         WATER => 200,
