@@ -20,6 +20,9 @@ const REPETITIONS: usize = 101;
 /// The time each side runs in one repetition.
 const SLICE: Duration = Duration::from_millis(2);
 
+/// What the ratios of two measurements of the same code differ by.
+const NOISE: f64 = 0.03;
+
 const WARM_UP: Duration = Duration::from_millis(200);
 
 /// A function under test. It is called through a pointer, so that no side is inlined in the loop.
@@ -37,8 +40,11 @@ fn main() {
     }));
     slower.extend(table("table made", &loonstool::properties_of));
     match slower.as_slice() {
-        [] => println!("slower than plain: none"),
-        names => println!("slower than plain: {}", names.join("; ")),
+        [] => println!("slower than plain by more than {NOISE}: none"),
+        names => println!(
+            "slower than plain by more than {NOISE}: {}",
+            names.join("; ")
+        ),
     }
 }
 
@@ -56,7 +62,7 @@ fn table(what: &str, proved: Side<Result<Properties, Refusal>>) -> Vec<String> {
             "{name:<32} {answer:>7} {:>10.2} {:>10.2} {:>7.3}   {:.3} to {:.3}",
             figures.proved, figures.plain, figures.ratio, figures.tenth, figures.ninetieth
         );
-        if figures.ratio > 1.0 {
+        if figures.ratio > 1.0 + NOISE {
             slower.push(format!("{what}: {name}"));
         }
     }

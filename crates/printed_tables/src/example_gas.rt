@@ -55,7 +55,7 @@ pub fn sums(table: &[[i32; 12]; 55]) -> Sums
     )
 }
 
-// The size of a sum of s.
+// The size of a sum of s. No s of the example's lines is below 0.
 pub fn size(n: i64) -> u64
     requires { ⌜ natAbs n ≤ 10000000000 ⌝ }
 {
