@@ -23,8 +23,7 @@
  *
  * The archive is for x86-64 alone: ELF, System V calling convention, SSE2 registers, 128 bytes below the stack pointer in use. Without an
  * operating system SSE has to be switched on, and an interrupt handler leaves those 128 bytes and the xmm registers as they were. The one
- * function that it needs is memcpy. Bytes of stack that a call takes, beside memcpy's own, are at most
- *     loonstool_properties_of 3,500; loonstool_read 800; loonstool_properties_with 600; loonstool_make_table 400; loonstool_write 300.
+ * function that it needs is memcpy.
  */
 #ifndef LOONSTOOL_H
 #define LOONSTOOL_H
@@ -68,6 +67,13 @@ enum loonstool_number {
 /* The lines of the component table, the most entries that a record has, and the bytes of a record with n entries. */
 #define LOONSTOOL_LINES 55
 #define LOONSTOOL_RECORD_BYTES(n) (8 + 5 * (n))
+
+/* Bytes of stack that a call takes at most, the 128 below the stack pointer included, and beside memcpy's own. */
+#define LOONSTOOL_STACK_PROPERTIES_OF 3600
+#define LOONSTOOL_STACK_PROPERTIES_WITH 800
+#define LOONSTOOL_STACK_MAKE_TABLE 400
+#define LOONSTOOL_STACK_READ 1000
+#define LOONSTOOL_STACK_WRITE 400
 
 /* The six properties. None passes the ceiling beside it. */
 struct loonstool_properties {
