@@ -99,12 +99,13 @@ fn properties_of_entries(bytes: &[u8]) -> Answer
     requires { ⌜ firstOf (headOrder (now bytes)) ≡ 0 ⌝ }
     ensures { λ r. ⌜ meaning r ≡ propertiesOf (now (bytes .entry)) ⌝ }
 {
-    let mut lines = [0u8; 55];
-    let mut fractions = [0u32; 55];
-    let refusal = records::entries_refusal(bytes, &mut lines, &mut fractions);
+    let refusal = records::entries_refusal(bytes);
     if refusal != 0 {
         return Answer::Refused(refusal);
     }
+    let mut lines = [0u8; 55];
+    let mut fractions = [0u32; 55];
+    records::read_entries(bytes, &mut lines, &mut fractions);
     let table = components::component_table();
     Answer::Accepted(calculate_record(&table, bytes, &lines, &fractions))
 }
@@ -127,11 +128,12 @@ fn properties_with_entries(table: &[[i32; 12]; 55], bytes: &[u8]) -> Answer
     requires { ⌜ firstOf (headOrder (now bytes)) ≡ 0 ⌝ }
     ensures { λ r. ⌜ meaning r ≡ propertiesOf (now (bytes .entry)) ⌝ }
 {
-    let mut lines = [0u8; 55];
-    let mut fractions = [0u32; 55];
-    let refusal = records::entries_refusal(bytes, &mut lines, &mut fractions);
+    let refusal = records::entries_refusal(bytes);
     if refusal != 0 {
         return Answer::Refused(refusal);
     }
+    let mut lines = [0u8; 55];
+    let mut fractions = [0u32; 55];
+    records::read_entries(bytes, &mut lines, &mut fractions);
     Answer::Accepted(calculate_record(table, bytes, &lines, &fractions))
 }
