@@ -11,7 +11,8 @@ mod format;
 mod scan;
 
 pub use conditions::head_refusal;
-pub use format::read_entries;
+pub use format::fraction_in;
+pub use format::line_in;
 pub use scan::entries_refusal;
 
 // Accepted, or refused with document 01's number.

@@ -15,32 +15,17 @@ returns c =
     let e = c .before in
     refused-properties (e .before .before .args .bytes .now) (e .entries-refusal .ensures) (λ z. omega arith)
 
-slice-aggregate-read-entries : tie.Need-slice-aggregate-read-entries
-slice-aggregate-read-entries c = search needs
-
-slice-aggregate-read-entries-2 : tie.Need-slice-aggregate-read-entries-2
-slice-aggregate-read-entries-2 c = search needs
-
-read-entries-requires : tie.Need-read-entries-requires
-read-entries-requires c κs = search needs
-
 component-table-requires : tie.Need-component-table-requires
 component-table-requires c κs = search needs
 
-slice-aggregate-calculate-record : tie.Need-slice-aggregate-calculate-record
-slice-aggregate-calculate-record c = search needs
-
-slice-aggregate-calculate-record-2 : tie.Need-slice-aggregate-calculate-record-2
-slice-aggregate-calculate-record-2 c = search needs
-
-calculate-record-requires : tie.Need-calculate-record-requires
-calculate-record-requires c κs = search needs
+calculate-requires : tie.Need-calculate-requires
+calculate-requires c κs = search needs
 
 returns-2 : tie.Need-returns-2
 returns-2 c =
-    let j = c .before .before .before .before .before .before .before .before .before .before in
+    let j = c .before .before .before in
     let e = j .before in
-    ap accepted (c .calculate-record .ensures) ∙ accepted-properties (e .before .before .args .bytes .now) (sym (e .entries-refusal .ensures) ∙ j .if1 .left)
+    ap accepted (c .calculate .ensures) ∙ accepted-properties (e .before .before .args .bytes .now) (sym (e .entries-refusal .ensures) ∙ j .if1 .left)
 
 pub properties-of-entries-spec : {M : Type 1} → statement M
 properties-of-entries-spec =
@@ -48,11 +33,6 @@ properties-of-entries-spec =
     (tie.spec
     entries-refusal-requires
     returns
-    slice-aggregate-read-entries
-    slice-aggregate-read-entries-2
-    read-entries-requires
     component-table-requires
-    slice-aggregate-calculate-record
-    slice-aggregate-calculate-record-2
-    calculate-record-requires
+    calculate-requires
     returns-2)
