@@ -5,5 +5,5 @@ pub mod SignedSums
 pub mod SumLaws
 pub mod AllLines
 pub mod Bounds
-mod Summing
+pub mod Summing
 mod Cases

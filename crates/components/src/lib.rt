@@ -2,7 +2,7 @@
 ghost use mathlib.Core.Path.{_≡_};
 ghost use Prim.Native.Nat.{_+_, _*_, _^_, _≤_, _<_};
 ghost use lib.IntN.{natAbs, pos, _+ℤ_, _*ℤ_};
-ghost use Rattle.components.specs.Table.{componentTable, entryOf, molarMass, summation, superior, inferior};
+ghost use Rattle.components.specs.Table.{componentTable, entryOf, molarMass, summation, superior, inferior, Unsigned};
 ghost use Rattle.components.specs.Composition.{Composition, sumOf};
 
 mod table;
@@ -42,6 +42,16 @@ fn add_entry(table: &[[i32; 12]; 55], sum: i64, line: u8, fraction: u32, column:
     add_product(sum, fraction, entry(table, line, column))
 }
 
+// The same in a column with no number below 0.
+fn add_unsigned(table: &[[i32; 12]; 55], sum: u64, line: u8, fraction: u32, column: usize) -> u64
+    requires { ⌜ now table ≡ componentTable ⌝ }
+    requires { ⌜ (1 ≤ line) × (line ≤ 55) × (column < 12) × Unsigned column ⌝ }
+    requires { ⌜ sum + fraction * natAbs (entryOf line column) < 2 ^ 63 ⌝ }
+    ensures { λ r. ⌜ pos r ≡ pos sum +ℤ pos fraction *ℤ entryOf line column ⌝ }
+{
+    add_entry(table, sum as i64, line, fraction, column) as u64
+}
+
 // Sums of fraction times column: h superior, h inferior and m, which have no number below 0, and s.
 pub struct Sums {
     pub superior: u64,
@@ -50,8 +60,44 @@ pub struct Sums {
     pub summation: i64,
 }
 
-// The sums of a composition in one pass, with h at the t-th of 25, 20, 15 and 0 °C, and s at the k-th of 0, 15 and 20 °C, each
-// counted from 0.
+// The sums of no entry.
+pub fn no_sums() -> Sums
+    ensures { λ r. ⌜ r ≡ record { superior = 0; inferior = 0; mass = 0; summation = pos 0 } ⌝ }
+{
+    Sums {
+        superior: 0,
+        inferior: 0,
+        mass: 0,
+        summation: 0,
+    }
+}
+
+// The sums with one more entry: h at the t-th of 25, 20, 15 and 0 °C, and s at the k-th of 0, 15 and 20 °C, each counted from 0.
+pub fn add_to_sums(
+    table: &[[i32; 12]; 55],
+    sums: Sums,
+    line: u8,
+    fraction: u32,
+    t: usize,
+    k: usize,
+) -> Sums
+    requires { ⌜ now table ≡ componentTable ⌝ }
+    requires { ⌜ (1 ≤ line) × (line ≤ 55) × (t < 4) × (k < 3) ⌝ }
+    requires { ⌜ (sums .superior < 2 ^ 62) × (sums .inferior < 2 ^ 62) × (sums .mass < 2 ^ 62) × (natAbs (sums .summation) < 2 ^ 62) ⌝ }
+    ensures superior { λ r. ⌜ pos (r .superior) ≡ pos (sums .superior) +ℤ pos fraction *ℤ entryOf line (superior t) ⌝ }
+    ensures inferior { λ r. ⌜ pos (r .inferior) ≡ pos (sums .inferior) +ℤ pos fraction *ℤ entryOf line (inferior t) ⌝ }
+    ensures mass { λ r. ⌜ pos (r .mass) ≡ pos (sums .mass) +ℤ pos fraction *ℤ entryOf line molarMass ⌝ }
+    ensures summation { λ r. ⌜ r .summation ≡ sums .summation +ℤ pos fraction *ℤ entryOf line (summation k) ⌝ }
+{
+    Sums {
+        superior: add_unsigned(table, sums.superior, line, fraction, 4 + 2 * t),
+        inferior: add_unsigned(table, sums.inferior, line, fraction, 5 + 2 * t),
+        mass: add_unsigned(table, sums.mass, line, fraction, 0),
+        summation: add_entry(table, sums.summation, line, fraction, 1 + k),
+    }
+}
+
+// The sums of a composition in one pass.
 pub fn sums_of(table: &[[i32; 12]; 55], lines: &[u8], fractions: &[u32], t: usize, k: usize) -> Sums
     requires { ⌜ now table ≡ componentTable ⌝ }
     requires { ⌜ Composition (now lines) (now fractions) ⌝ }
@@ -61,24 +107,11 @@ pub fn sums_of(table: &[[i32; 12]; 55], lines: &[u8], fractions: &[u32], t: usiz
     ensures mass { λ r. ⌜ pos (r .mass) ≡ sumOf molarMass (now (lines .entry)) (now (fractions .entry)) ⌝ }
     ensures summation { λ r. ⌜ r .summation ≡ sumOf (summation k) (now (lines .entry)) (now (fractions .entry)) ⌝ }
 {
-    let mut superior: i64 = 0;
-    let mut inferior: i64 = 0;
-    let mut mass: i64 = 0;
-    let mut summation: i64 = 0;
+    let mut sums = no_sums();
     let mut i = 0;
     while i < lines.len() {
-        let line = lines[i];
-        let fraction = fractions[i];
-        superior = add_entry(table, superior, line, fraction, 4 + 2 * t);
-        inferior = add_entry(table, inferior, line, fraction, 5 + 2 * t);
-        mass = add_entry(table, mass, line, fraction, 0);
-        summation = add_entry(table, summation, line, fraction, 1 + k);
+        sums = add_to_sums(table, sums, lines[i], fractions[i], t, k);
         i += 1;
     }
-    Sums {
-        superior: superior as u64,
-        inferior: inferior as u64,
-        mass: mass as u64,
-        summation,
-    }
+    sums
 }

@@ -1,8 +1,9 @@
-// 1. The sums of a composition over the component table.
+// 1. The sums of a record over the component table.
 ghost use mathlib.Core.Path.{_≡_};
 ghost use Rattle.components.specs.Table.{componentTable};
-ghost use Rattle.records.specs.Format.{contents};
-ghost use Rattle.records.specs.Accepted.{Acceptable};
+ghost use Rattle.records.specs.Order.{firstOf};
+ghost use Rattle.records.specs.Format.{contentsIn};
+ghost use Rattle.records.specs.Conditions.{recordOrder};
 ghost use Rattle.properties.specs.Chain.{combustionPlace, meteringPlace, HmSuperior, HmInferior, M, S};
 use super::steps;
 use components::Sums;
@@ -30,26 +31,25 @@ fn metering_place(metering: u8) -> usize
     steps::for_metering(0, 1, 2, metering) as usize
 }
 
-// The sums of a composition.
-pub fn sums_of(
-    table: &[[i32; 12]; 55],
-    combustion: u8,
-    metering: u8,
-    lines: &[u8],
-    fractions: &[u32],
-) -> Sums
+// The sums of an accepted record, in one pass over its entries.
+pub fn sums_of(table: &[[i32; 12]; 55], bytes: &[u8]) -> Sums
     requires { ⌜ now table ≡ componentTable ⌝ }
-    requires { ⌜ Acceptable (contents combustion metering (now lines) (now fractions)) ⌝ }
-    ensures superior { λ r. ⌜ r .superior ≡ HmSuperior (contents combustion metering (now (lines .entry)) (now (fractions .entry))) ⌝ }
-    ensures inferior { λ r. ⌜ r .inferior ≡ HmInferior (contents combustion metering (now (lines .entry)) (now (fractions .entry))) ⌝ }
-    ensures mass { λ r. ⌜ r .mass ≡ M (contents combustion metering (now (lines .entry)) (now (fractions .entry))) ⌝ }
-    ensures summation { λ r. ⌜ r .summation ≡ S (contents combustion metering (now (lines .entry)) (now (fractions .entry))) ⌝ }
+    requires { ⌜ firstOf (recordOrder (now bytes)) ≡ 0 ⌝ }
+    ensures superior { λ r. ⌜ r .superior ≡ HmSuperior (contentsIn (now (bytes .entry))) ⌝ }
+    ensures inferior { λ r. ⌜ r .inferior ≡ HmInferior (contentsIn (now (bytes .entry))) ⌝ }
+    ensures mass { λ r. ⌜ r .mass ≡ M (contentsIn (now (bytes .entry))) ⌝ }
+    ensures summation { λ r. ⌜ r .summation ≡ S (contentsIn (now (bytes .entry))) ⌝ }
 {
-    components::sums_of(
-        table,
-        lines,
-        fractions,
-        combustion_place(combustion),
-        metering_place(metering),
-    )
+    let t = combustion_place(bytes[5]);
+    let k = metering_place(bytes[6]);
+    let n = bytes[7] as usize;
+    let mut sums = components::no_sums();
+    let mut i = 0;
+    while i < n {
+        let line = records::line_in(bytes, i);
+        let fraction = records::fraction_in(bytes, i);
+        sums = components::add_to_sums(table, sums, line, fraction, t, k);
+        i += 1;
+    }
+    sums
 }

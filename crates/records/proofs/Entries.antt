@@ -7,7 +7,7 @@ use native.Mathlib.Numerals.{add-one}
 use native.Mathlib.Omega.{arith}
 use lib.ListN.{length, getD, take, drop, set, replicate, length-append, length-drop}
 use lib.Seq.{paste-suc, getD-drop, take-all, take-length, length-take-le}
-use Rattle.records.specs.Format.{number4, linesOf, fractionsOf, entryBytes, entriesBytes, placed}
+use Rattle.records.specs.Format.{entriesAt, number4, countIn, linesOf, fractionsOf, linesIn, fractionsIn, entryBytes, entriesBytes, placed}
 use Rattle.records.specs.Answers.{padded}
 use Rattle.records.proofs.Placing.{placed-none, placed-after}
 
@@ -37,6 +37,15 @@ fraction-at zero es k h = let f : ⊥ = omega arith in elim f [ ]
 fraction-at (suc n) es zero h = refl
 fraction-at (suc n) es (suc k) h = fraction-at n (drop 5 es) k (omega arith) ∙ number-drop 5 es (5 * k + 1) ∙ ap (λ (i : ℕ). number4 es i) (omega arith)
 
+-- where the entry k of a record stands
+module _ (bs : List ℕ) (k : ℕ) (h : k < countIn bs) where
+  pub line-here : getD bs (entriesAt + 5 * k) 0 ≡ getD (linesIn bs) k 0
+  line-here = sym (line-at (countIn bs) (drop entriesAt bs) k h ∙ getD-drop entriesAt bs (5 * k) 0)
+
+  pub fraction-here : number4 bs (entriesAt + 5 * k + 1) ≡ getD (fractionsIn bs) k 0
+  fraction-here =
+      sym (fraction-at (countIn bs) (drop entriesAt bs) k h ∙ number-drop entriesAt bs (5 * k + 1) ∙ ap (λ (i : ℕ). number4 bs i) (sym (add-assoc entriesAt (5 * k) 1)))
+
 -- an array of 55 whose first k numbers are those of s, and the others 0
 abbrev pub filled : List ℕ → ℕ → List ℕ
 filled s k = take k s ++ drop k (replicate 55 0)
@@ -44,24 +53,12 @@ filled s k = take k s ++ drop k (replicate 55 0)
 pub filled-length : (s array : List ℕ) (k : ℕ) → k ≤ length s → k ≤ 55 → array ≡ filled s k → length array ≡ 55
 filled-length s array k hs hk e = rw e (simp (length-append, length-drop) (omega (arith, length-take-le k s hs)))
 
-fill : (s array : List ℕ) (k v : ℕ) → k < length s → k < 55 → array ≡ filled s k → getD s k 0 ≡ v → set array k v ≡ filled s (k + 1)
-fill s array k v hs hd e f = rw (e, ← f, add-one) (simp zero-add at (paste-suc (replicate 55 0) 0 s k 0 (rw zero-add hd) hs))
+-- the next number is filled in
+pub fill : (s array : List ℕ) (k v : ℕ) → k < length s → k < 55 → array ≡ filled s k → v ≡ getD s k 0 → set array k v ≡ filled s (k + 1)
+fill s array k v hs hd e f = rw (e, f, add-one) (simp zero-add at (paste-suc (replicate 55 0) 0 s k 0 (rw zero-add hd) hs))
 
 pub full : (s : List ℕ) (k : ℕ) → length s ≡ k → filled s k ≡ padded s
 full s k e = rw (← e, take-length)
-
--- the next entry of n, which begin at an offset, is read
-module _ (bs : List ℕ) (at n k : ℕ) (h : k < n) (fits : k < 55) where
-  pub next-line : (array : List ℕ) → array ≡ filled (linesOf n (drop at bs)) k
-      → set array k (getD bs (at + 5 * k) 0) ≡ filled (linesOf n (drop at bs)) (k + 1)
-  next-line array e =
-      fill (linesOf n (drop at bs)) array k _ (rw length-lines h) fits e (line-at n (drop at bs) k h ∙ getD-drop at bs (5 * k) 0)
-
-  pub next-fraction : (array : List ℕ) → array ≡ filled (fractionsOf n (drop at bs)) k
-      → set array k (number4 bs (at + 5 * k + 1)) ≡ filled (fractionsOf n (drop at bs)) (k + 1)
-  next-fraction array e =
-      fill (fractionsOf n (drop at bs)) array k _ (rw length-fractions h) fits e
-      (fraction-at n (drop at bs) k h ∙ number-drop at bs (5 * k + 1) ∙ ap (λ (i : ℕ). number4 bs i) (sym (add-assoc at (5 * k) 1)))
 
 pub length-entries : (ls xs : List ℕ) → length ls ≡ length xs → length (entriesBytes ls xs) ≡ 5 * length ls
 unfolding entriesBytes

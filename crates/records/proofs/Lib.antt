@@ -4,7 +4,7 @@ pub mod Heads
 pub mod RoundTrips
 mod Scans
 mod Digits
-mod Entries
+pub mod Entries
 pub mod ReadLaws
 pub mod Accepted
 pub mod FirstBytes

@@ -31,12 +31,6 @@ prefix array l n e h =
 
 -- the arrays of a record's entries
 module _ (bs lines fractions : List ℕ) (hl : lines ≡ padded (linesIn bs)) (hx : fractions ≡ padded (fractionsIn bs)) where
-  pub lines-prefix : Prefix lines (countIn bs) (linesIn bs)
-  lines-prefix = prefix lines (linesIn bs) (countIn bs) hl (length-lines (countIn bs) (drop entriesAt bs))
-
-  pub fractions-prefix : Prefix fractions (countIn bs) (fractionsIn bs)
-  fractions-prefix = prefix fractions (fractionsIn bs) (countIn bs) hx (length-fractions (countIn bs) (drop entriesAt bs))
-
   pub reads-accepted : firstOf (recordOrder bs) ≡ 0
       → Reads bs
       (record {

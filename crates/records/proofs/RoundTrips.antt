@@ -69,8 +69,11 @@ bytes-again bs b h =
 
 -- an accepted record's head and content
 module _ (bs : List ℕ) (h : firstOf (recordOrder bs) ≡ 0) where
+  pub accepted-clear : firstOf (headOrder bs) ≡ 0
+  accepted-clear = clear-first (headOrder bs) (contentOrder (linesIn bs) (fractionsIn bs)) tt h
+
   pub accepted-head : Head bs
-  accepted-head = head bs (clear-first (headOrder bs) (contentOrder (linesIn bs) (fractionsIn bs)) tt h)
+  accepted-head = head bs accepted-clear
 
   pub accepted-content : firstOf (contentOrder (linesIn bs) (fractionsIn bs)) ≡ 0
   accepted-content = clear-second (headOrder bs) (contentOrder (linesIn bs) (fractionsIn bs)) tt h

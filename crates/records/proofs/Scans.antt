@@ -1,31 +1,117 @@
--- What a definition by cases on a list says of what is left from an index on.
-use mathlib.Core.Path.{_≡_}
-use mathlib.Core.Bool.{_||_, cond}
+-- The entry scan over lists: what is noted of the entries before an index, and what is left from it on.
+use mathlib.Core.Path.{_≡_, refl, _∙_}
+use mathlib.Core.Bool.{Bool, true, false, _||_, cond, or-assoc, or-false}
 use mathlib.Core.List.{List}
-use Prim.Native.Nat.{ℕ, _+_, _<_}
+use mathlib.Core.Logic.{_⊎_, inl, inr}
+use Prim.Native.Nat.{ℕ, _+_, _*_, _^_, _≤_, _<_}
+use native.Mathlib.Nat.{add-zero}
 use native.Mathlib.Numerals.{add-one}
-use lib.Dec.{eqb, leb, ltb}
-use lib.ListN.{length, getD, drop}
+use native.Mathlib.Omega.{arith}
+use borrow.Author.Tests.{leb-false}
+use lib.Dec.{T, eqb, eqb→eq, leb, ltb}
+use lib.ListN.{length, getD, drop, drop-of-length-le}
 use lib.Seq.{drop-cons}
-use Rattle.components.specs.Composition.{fractionFor}
-use Rattle.records.specs.Conditions.{lineBreaks, fractionZero, aboveLimit, anyAbove}
+use Rattle.components.specs.Composition.{total, fractionFor}
+use Rattle.components.proofs.SumLaws.{total-step}
+use Rattle.records.specs.Order.{firstOf}
+use Rattle.records.specs.Conditions.{methane, water, limitOf, lineBreaks, fractionZero, aboveLimit, anyAbove, limitsOrder, contentOrder}
+use Rattle.records.proofs.OrderLaws.{neither}
 
-pub lines-step : (before : ℕ) (ls : List ℕ) (k : ℕ) → k < length ls
-    → lineBreaks before (drop k ls) ≡ (leb (getD ls k 0) before || (ltb 55 (getD ls k 0) || lineBreaks (getD ls k 0) (drop (k + 1) ls)))
-unfolding lineBreaks
-lines-step before ls k h = rw (add-one, drop-cons ls k 0)
+-- the fraction of a line is that of an entry passed; or 0 is noted, and it is that of the entries left
+abbrev Found : ℕ → List ℕ → List ℕ → ℕ → ℕ → ℕ → Type 0
+Found line ls xs before noted k =
+    ((line ≤ before) × (fractionFor line ls xs ≡ noted)) ⊎ ((noted ≡ 0) × (fractionFor line ls xs ≡ fractionFor line (drop k ls) (drop k xs)))
 
-pub zero-step : (xs : List ℕ) (k : ℕ) → k < length xs → fractionZero (drop k xs) ≡ (eqb (getD xs k 0) 0 || fractionZero (drop (k + 1) xs))
-unfolding fractionZero
-zero-step xs k h = rw (add-one, drop-cons xs k 0)
+-- what is noted of the entries before k, the last of which has the line number before
+pub record Noted (ls xs : List ℕ) (before : ℕ) (zero : Bool) (sum first : ℕ) (above : Bool) (second k : ℕ) : Type 0 where
+  pub within : k ≤ length ls
+  pub small : sum ≤ k * 2 ^ 32
+  pub breaks : lineBreaks 0 ls ≡ lineBreaks before (drop k ls)
+  pub zeros : fractionZero xs ≡ (zero || fractionZero (drop k xs))
+  pub whole : total xs ≡ sum + total (drop k xs)
+  pub methanes : Found methane ls xs before first k
+  pub aboves : anyAbove ls xs ≡ (above || anyAbove (drop k ls) (drop k xs))
+  pub waters : Found water ls xs before second k
 
-module _ (ls xs : List ℕ) (k : ℕ) (hl : k < length ls) (hx : k < length xs) where
-  pub fraction-step : (line : ℕ)
-      → fractionFor line (drop k ls) (drop k xs)
-      ≡ cond (eqb (getD ls k 0) line) (getD xs k 0) (fractionFor line (drop (k + 1) ls) (drop (k + 1) xs))
-  unfolding fractionFor
-  fraction-step line = rw (add-one, drop-cons ls k 0, drop-cons xs k 0)
+pub nothing-noted : (ls xs : List ℕ) → Noted ls xs 0 false 0 0 false 0 0
+nothing-noted ls xs =
+    record {
+      within = omega arith;
+      small = omega arith;
+      breaks = refl;
+      zeros = refl;
+      whole = omega arith;
+      methanes = inr (refl, refl);
+      aboves = refl;
+      waters = inr (refl, refl);
+    }
 
-  pub above-step : anyAbove (drop k ls) (drop k xs) ≡ (aboveLimit (getD ls k 0) (getD xs k 0) || anyAbove (drop (k + 1) ls) (drop (k + 1) xs))
-  unfolding anyAbove
-  above-step = rw (add-one, drop-cons ls k 0, drop-cons xs k 0)
+-- one more entry, whose line number is above the one before
+found-step : (line l x before noted rest whole : ℕ) (is : Bool) → (T is → l ≡ line) → before < l
+    → ((line ≤ before) × (whole ≡ noted)) ⊎ ((noted ≡ 0) × (whole ≡ cond is x rest))
+    → ((line ≤ l) × (whole ≡ cond is x noted)) ⊎ ((cond is x noted ≡ 0) × (whole ≡ rest))
+found-step line l x before noted rest whole true is h (inl (p, e)) = let f : ⊥ = omega (arith, is tt) in elim f [ ]
+found-step line l x before noted rest whole true is h (inr (z, e)) = inl (omega (arith, is tt), e)
+found-step line l x before noted rest whole false is h (inl (p, e)) = inl (omega arith, e)
+found-step line l x before noted rest whole false is h (inr (z, e)) = inr (z, e)
+
+-- at an entry
+module _ {ls xs : List ℕ} {before : ℕ} {zero : Bool} {sum first : ℕ} {above : Bool} {second k : ℕ} (n : Noted ls xs before zero sum first above second k)
+    (hl : k < length ls) where
+  abbrev l : ℕ
+  l = getD ls k 0
+
+  abbrev x : ℕ
+  x = getD xs k 0
+
+  lines-step : lineBreaks 0 ls ≡ ((leb l before || ltb 55 l) || lineBreaks l (drop (k + 1) ls))
+  unfolding lineBreaks
+  lines-step = n .breaks ∙ rw (add-one, drop-cons ls k 0, or-assoc (leb l before))
+
+  -- 7 holds
+  pub breaks-here : (leb l before || ltb 55 l) ≡ true → 7 ≡ firstOf (contentOrder ls xs)
+  breaks-here h = rw (lines-step, h)
+
+  module _ (h : (leb l before || ltb 55 l) ≡ false) (hx : k < length xs) where
+    left : (line : ℕ) → fractionFor line (drop k ls) (drop k xs) ≡ cond (eqb l line) x (fractionFor line (drop (k + 1) ls) (drop (k + 1) xs))
+    unfolding fractionFor
+    left line = rw (add-one, drop-cons ls k 0, drop-cons xs k 0)
+
+    found : (line noted : ℕ) → Found line ls xs before noted k → Found line ls xs l (cond (eqb l line) x noted) (k + 1)
+    found line noted f =
+        found-step line l x before noted _ _ (eqb l line) (λ t. eqb→eq l line t) (leb-false _ _ (neither _ _ h .0)) (rw (left line) at f)
+
+    pub next-noted : x < 2 ^ 32
+        → Noted ls xs l (zero || eqb x 0) (sum + x) (cond (eqb l methane) x first) (above || aboveLimit l x) (cond (eqb l water) x second) (k + 1)
+    unfolding fractionZero anyAbove
+    next-noted w =
+        record {
+          within = omega arith;
+          small = omega (arith, n .small);
+          breaks = lines-step ∙ rw h;
+          zeros = n .zeros ∙ rw (add-one, drop-cons xs k 0, or-assoc zero);
+          whole = omega (arith, n .whole, total-step xs k hx);
+          methanes = found methane first (n .methanes);
+          aboves = n .aboves ∙ rw (add-one, drop-cons ls k 0, drop-cons xs k 0, or-assoc above);
+          waters = found water second (n .waters);
+        }
+
+-- after the last entry
+found-all : (line : ℕ) (ls xs : List ℕ) (before noted k : ℕ) → length ls ≤ k → Found line ls xs before noted k → fractionFor line ls xs ≡ noted
+unfolding fractionFor
+found-all line ls xs before noted k h (inl (p, e)) = e
+found-all line ls xs before noted k h (inr (z, e)) = e ∙ rw (drop-of-length-le ls h, z)
+
+module _ {ls xs : List ℕ} {before : ℕ} {zero : Bool} {sum first : ℕ} {above : Bool} {second k : ℕ} (n : Noted ls xs before zero sum first above second k)
+    (hl : length ls ≤ k) (hx : length xs ≤ k) where
+  pub all-noted : {r : ℕ} → r ≡ cond zero 8 (firstOf (limitsOrder (ltb sum 999900 || ltb 1000100 sum) (ltb first 500000) above (ltb (limitOf water) second)))
+      → r ≡ firstOf (contentOrder ls xs)
+  unfolding lineBreaks fractionZero anyAbove total
+  all-noted e =
+      let el = drop-of-length-le ls hl in
+      let ex = drop-of-length-le xs hx in
+      let b : lineBreaks 0 ls ≡ false = n .breaks ∙ rw el in
+      let z : fractionZero xs ≡ zero = n .zeros ∙ rw (ex, or-false) in
+      let t : total xs ≡ sum = n .whole ∙ rw (ex, add-zero) in
+      let a : anyAbove ls xs ≡ above = n .aboves ∙ rw (el, or-false) in
+      e ∙ rw (b, z, t, found-all methane ls xs before first k hl (n .methanes), a, found-all water ls xs before second k hl (n .waters))

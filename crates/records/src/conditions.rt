@@ -1,20 +1,17 @@
 // The conditions of refusal, each with document 01's number, in the orders of the reader and the writer. 0 stands for none.
 ghost use mathlib.Core.Path.{_≡_};
-ghost use mathlib.Core.Bool.{cond};
-ghost use Prim.Native.Nat.{_^_, _≤_, _<_};
-ghost use lib.ListN.{length};
-ghost use Rattle.components.specs.Composition.{total, fractionFor};
 ghost use Rattle.records.specs.Order.{firstOf};
 ghost use Rattle.records.specs.Format.{contents};
-ghost use Rattle.records.specs.Conditions.{permitted, limitOf, countOutside, lineBreaks, fractionZero, sumOutside, aboveLimit, anyAbove};
-ghost use Rattle.records.specs.Conditions.{fieldsOrder, limitsOrder, listsOrder, headOrder, contentOrder, writerOrder};
+ghost use Rattle.records.specs.Conditions.{permitted, limitOf, countOutside, aboveLimit};
+ghost use Rattle.records.specs.Conditions.{fieldsOrder, limitsOrder, listsOrder, headOrder, writerOrder};
 use super::format;
+use super::scan;
 
-const METHANE: u8 = 1;
+pub const METHANE: u8 = 1;
 
 const ETHANE: u8 = 2;
 
-const WATER: u8 = 42;
+pub const WATER: u8 = 42;
 
 const NITROGEN: u8 = 52;
 
@@ -86,91 +83,8 @@ pub fn head_refusal(bytes: &[u8]) -> u8
     )
 }
 
-// 7: the first line number outside 1 to 55, or not above the one before, ends the scan.
-fn lines_refusal(lines: &[u8]) -> u8
-    ensures { λ r. ⌜ r ≡ cond (lineBreaks 0 (now (lines .entry))) 7 0 ⌝ }
-{
-    let mut before: u8 = 0;
-    let mut k = 0;
-    'scan: loop {
-        if k >= lines.len() {
-            break 'scan 0;
-        }
-        let line = lines[k];
-        if line <= before {
-            break 'scan 7;
-        }
-        if 55 < line {
-            break 'scan 7;
-        }
-        before = line;
-        k += 1;
-    }
-}
-
-// 8: the first fraction that is 0 ends the scan.
-fn fractions_refusal(fractions: &[u32]) -> u8
-    ensures { λ r. ⌜ r ≡ cond (fractionZero (now (fractions .entry))) 8 0 ⌝ }
-{
-    let mut k = 0;
-    'scan: loop {
-        if k >= fractions.len() {
-            break 'scan 0;
-        }
-        if fractions[k] == 0 {
-            break 'scan 8;
-        }
-        k += 1;
-    }
-}
-
-// A fraction in 64 bits.
-fn widened(x: u32) -> u64
-    ensures { λ r. ⌜ (r ≡ x) × (r < 2 ^ 32) ⌝ }
-{
-    x as u64
-}
-
-// The sum of the fractions.
-fn sum(fractions: &[u32]) -> u64
-    requires { ⌜ length (now fractions) ≤ 55 ⌝ }
-    ensures { λ r. ⌜ r ≡ total (now (fractions .entry)) ⌝ }
-{
-    let mut sum: u64 = 0;
-    let mut k = 0;
-    while k < fractions.len() {
-        sum += widened(fractions[k]);
-        k += 1;
-    }
-    sum
-}
-
-// 9: the sum is outside its range.
-fn sum_outside(fractions: &[u32]) -> bool
-    requires { ⌜ length (now fractions) ≤ 55 ⌝ }
-    ensures { λ r. ⌜ r ≡ sumOutside (now (fractions .entry)) ⌝ }
-{
-    let sum = sum(fractions);
-    (sum < 999900) | (1000100 < sum)
-}
-
-// The fraction of a line, 0 where it is absent.
-fn fraction_for(line: u8, lines: &[u8], fractions: &[u32]) -> u32
-    requires { ⌜ length (now lines) ≡ length (now fractions) ⌝ }
-    ensures { λ r. ⌜ r ≡ fractionFor line (now (lines .entry)) (now (fractions .entry)) ⌝ }
-{
-    let mut k = 0;
-    while k < lines.len() {
-        if lines[k] == line {
-            return fractions[k];
-        }
-        k += 1;
-    }
-    0
-}
-
 // The highest fraction of a line other than methane.
-fn limit_of(line: u8) -> u32
+pub fn limit_of(line: u8) -> u32
     ensures { λ r. ⌜ r ≡ limitOf line ⌝ }
 {
     if line == NITROGEN {
@@ -186,7 +100,7 @@ fn limit_of(line: u8) -> u32
 }
 
 // An entry of a line other than methane and water is above its limit.
-fn above_limit(line: u8, fraction: u32) -> bool
+pub fn above_limit(line: u8, fraction: u32) -> bool
     ensures { λ r. ⌜ r ≡ aboveLimit line fraction ⌝ }
 {
     if fraction <= COMMON_LIMIT {
@@ -195,23 +109,8 @@ fn above_limit(line: u8, fraction: u32) -> bool
     (line != METHANE) & (line != WATER) & (limit_of(line) < fraction)
 }
 
-// 11: some entry of a line other than methane and water is above its limit.
-fn any_above(lines: &[u8], fractions: &[u32]) -> bool
-    requires { ⌜ length (now lines) ≡ length (now fractions) ⌝ }
-    ensures { λ r. ⌜ r ≡ anyAbove (now (lines .entry)) (now (fractions .entry)) ⌝ }
-{
-    let mut k = 0;
-    while k < lines.len() {
-        if above_limit(lines[k], fractions[k]) {
-            return true;
-        }
-        k += 1;
-    }
-    false
-}
-
 // 9 to 12 in their order, from whether each holds.
-fn limits_number(sum: bool, methane: bool, others: bool, water: bool) -> u8
+pub fn limits_number(sum: bool, methane: bool, others: bool, water: bool) -> u8
     ensures { λ r. ⌜ r ≡ firstOf (limitsOrder sum methane others water) ⌝ }
 {
     if sum {
@@ -227,27 +126,6 @@ fn limits_number(sum: bool, methane: bool, others: bool, water: bool) -> u8
         return 12;
     }
     0
-}
-
-// 7 to 12.
-pub fn content_refusal(lines: &[u8], fractions: &[u32]) -> u8
-    requires { ⌜ length (now lines) ≡ length (now fractions) ⌝ }
-    requires { ⌜ length (now fractions) ≤ 55 ⌝ }
-    ensures { λ r. ⌜ r ≡ firstOf (contentOrder (now (lines .entry)) (now (fractions .entry))) ⌝ }
-{
-    let lines_number = lines_refusal(lines);
-    if lines_number != 0 {
-        return lines_number;
-    }
-    let fractions_number = fractions_refusal(fractions);
-    if fractions_number != 0 {
-        return fractions_number;
-    }
-    let sum_wrong = sum_outside(fractions);
-    let methane_low = fraction_for(METHANE, lines, fractions) < 500000;
-    let other_high = any_above(lines, fractions);
-    let water_high = limit_of(WATER) < fraction_for(WATER, lines, fractions);
-    limits_number(sum_wrong, methane_low, other_high, water_high)
 }
 
 // 19, 4 and 5 in their order, from whether each holds.
@@ -285,7 +163,7 @@ pub fn writer_refusal(
     if start != 0 {
         return start;
     }
-    let content = content_refusal(lines, fractions);
+    let content = scan::content_refusal(lines, fractions);
     if content != 0 {
         return content;
     }

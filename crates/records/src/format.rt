@@ -1,10 +1,10 @@
 // The bytes of a record: its entries read, its head and entries written.
 ghost use mathlib.Core.Path.{_≡_};
 ghost use Prim.Native.Nat.{_+_, _≤_, _<_};
-ghost use lib.ListN.{length, drop, replicate};
-ghost use Rattle.records.specs.Format.{contents, entriesAt, recordLength, number2, number4, linesOf, fractionsOf, headBytes, entryBytes, entriesBytes, placed};
+ghost use lib.ListN.{length, getD, replicate};
+ghost use Rattle.records.specs.Format.{contents, entriesAt, recordLength, number2, number4, countIn, linesIn, fractionsIn, headBytes, entryBytes, entriesBytes, placed};
 ghost use Rattle.records.specs.Order.{firstOf, otherwise};
-ghost use Rattle.records.specs.Conditions.{writerOrder};
+ghost use Rattle.records.specs.Conditions.{headOrder, writerOrder};
 ghost use Rattle.records.specs.Calls.{writingOf};
 ghost use Rattle.records.specs.Answers.{padded};
 
@@ -48,16 +48,34 @@ fn number_4(bytes: &[u8], at: usize) -> u32
         + 16777216 * wide(bytes[at + 3])
 }
 
-// The n entries of a record into two arrays that hold 0.
-pub fn read_entries(bytes: &[u8], n: usize, lines: &mut [u8], fractions: &mut [u32])
-    requires { ⌜ (n ≤ 55) × (recordLength n ≤ length (now bytes)) ⌝ }
-    requires { ⌜ (now lines ≡ replicate 55 0) × (now fractions ≡ replicate 55 0) ⌝ }
-    ensures { λ _. ⌜ (now (lines .exit) ≡ padded (linesOf n (drop entriesAt (now (bytes .entry))))) × (now (fractions .exit) ≡ padded (fractionsOf n (drop entriesAt (now (bytes .entry))))) ⌝ }
+// The line number and the fraction of the entry k, counted from 0, of a record where none of 1 to 6 holds.
+pub fn line_in(bytes: &[u8], k: usize) -> u8
+    requires { ⌜ firstOf (headOrder (now bytes)) ≡ 0 ⌝ }
+    requires { ⌜ k < countIn (now bytes) ⌝ }
+    ensures { λ r. ⌜ r ≡ getD (linesIn (now (bytes .entry))) k 0 ⌝ }
 {
+    bytes[ENTRIES_AT + 5 * k]
+}
+
+pub fn fraction_in(bytes: &[u8], k: usize) -> u32
+    requires { ⌜ firstOf (headOrder (now bytes)) ≡ 0 ⌝ }
+    requires { ⌜ k < countIn (now bytes) ⌝ }
+    ensures { λ r. ⌜ r ≡ getD (fractionsIn (now (bytes .entry))) k 0 ⌝ }
+{
+    number_4(bytes, ENTRIES_AT + 5 * k + 1)
+}
+
+// The entries of a record where none of 1 to 6 holds into two arrays that hold 0.
+pub fn read_entries(bytes: &[u8], lines: &mut [u8], fractions: &mut [u32])
+    requires { ⌜ firstOf (headOrder (now bytes)) ≡ 0 ⌝ }
+    requires { ⌜ (now lines ≡ replicate 55 0) × (now fractions ≡ replicate 55 0) ⌝ }
+    ensures { λ _. ⌜ (now (lines .exit) ≡ padded (linesIn (now (bytes .entry)))) × (now (fractions .exit) ≡ padded (fractionsIn (now (bytes .entry)))) ⌝ }
+{
+    let n = bytes[7] as usize;
     let mut k = 0;
     while k < n {
-        lines[k] = bytes[ENTRIES_AT + 5 * k];
-        fractions[k] = number_4(bytes, ENTRIES_AT + 5 * k + 1);
+        lines[k] = line_in(bytes, k);
+        fractions[k] = fraction_in(bytes, k);
         k += 1;
     }
 }

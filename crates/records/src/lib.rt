@@ -2,15 +2,18 @@
 // buffer, gets its answer or the one number of its refusal.
 ghost use mathlib.Core.Path.{_≡_};
 ghost use Rattle.records.specs.Order.{firstOf};
-ghost use lib.ListN.{replicate};
-ghost use Rattle.records.specs.Format.{contents, linesIn, fractionsIn};
-ghost use Rattle.records.specs.Conditions.{headOrder, recordOrder};
-ghost use Rattle.records.specs.Answers.{Reads, Writes, Rewrites, verdictOf, padded, blank};
+ghost use Rattle.records.specs.Format.{contents};
+ghost use Rattle.records.specs.Conditions.{headOrder};
+ghost use Rattle.records.specs.Answers.{Reads, Writes, Rewrites, verdictOf, blank};
 
 mod conditions;
 mod format;
+mod scan;
 
 pub use conditions::head_refusal;
+pub use format::fraction_in;
+pub use format::line_in;
+pub use scan::entries_refusal;
 
 // Accepted, or refused with document 01's number.
 pub enum Verdict {
@@ -69,29 +72,18 @@ pub fn read(bytes: &[u8]) -> Reading
     read_content(bytes)
 }
 
-// Reads the entries into two arrays that hold 0, and gives the number of the first of 7 to 12 that holds, or 0. None of 1 to 6 may hold.
-pub fn entries_refusal(bytes: &[u8], lines: &mut [u8], fractions: &mut [u32]) -> u8
-    requires { ⌜ firstOf (headOrder (now bytes)) ≡ 0 ⌝ }
-    requires { ⌜ (now lines ≡ replicate 55 0) × (now fractions ≡ replicate 55 0) ⌝ }
-    ensures number { λ r. ⌜ r ≡ firstOf (recordOrder (now (bytes .entry))) ⌝ }
-    ensures entries { λ _. ⌜ (now (lines .exit) ≡ padded (linesIn (now (bytes .entry)))) × (now (fractions .exit) ≡ padded (fractionsIn (now (bytes .entry)))) ⌝ }
-{
-    let n = bytes[7] as usize;
-    format::read_entries(bytes, n, lines, fractions);
-    conditions::content_refusal(&lines[..n], &fractions[..n])
-}
-
 // Reads a record where none of 1 to 6 holds.
 fn read_content(bytes: &[u8]) -> Reading
     requires { ⌜ firstOf (headOrder (now bytes)) ≡ 0 ⌝ }
     ensures { λ r. ⌜ Reads (now (bytes .entry)) r ⌝ }
 {
-    let mut lines = [0u8; 55];
-    let mut fractions = [0u32; 55];
-    let refusal = entries_refusal(bytes, &mut lines, &mut fractions);
+    let refusal = scan::entries_refusal(bytes);
     if refusal != 0 {
         return refused(refusal);
     }
+    let mut lines = [0u8; 55];
+    let mut fractions = [0u32; 55];
+    format::read_entries(bytes, &mut lines, &mut fractions);
     Reading {
         verdict: Verdict::Accepted,
         analysis: Analysis {

@@ -8,8 +8,10 @@ use mir.Syntax.{w64}
 use mir.Val.{toZ, ofZ}
 use mir.Facts.{toZ-ofZ}
 use Rattle.rounding.proofs.SignedWords.{fits64}
-use Rattle.records.specs.Format.{Contents, contents}
+use Rattle.records.specs.Format.{Contents, contentsIn}
 use Rattle.records.specs.Accepted.{Acceptable}
+use Rattle.records.proofs.Accepted.{acceptable}
+use Rattle.records.proofs.RoundTrips.{accepted-head}
 use Rattle.properties.specs.declared.Properties.{Properties}
 use Rattle.properties.specs.Answers.{numbers}
 use Rattle.properties.specs.Chain.{compression, tenth, real, idealCalorific, idealDensity, idealRelative, wobbe, rootOf, Six, T, D, S, S9, Z, Hs, Hi, rho, A, G, d, r, W}
@@ -33,15 +35,18 @@ module _ (c : tie.After-struct-told) where
   start = c .before .before .before .before .before .before
 
   abbrev gas : Contents
-  gas = contents (start .args .combustion) (start .args .metering) (start .args .lines .now) (start .args .fractions .now)
+  gas = contentsIn (start .args .bytes .now)
 
   good : Acceptable gas
-  good = start .pre .1
+  good = acceptable (start .args .bytes .now) (start .pre .1)
 
   summation-is : toZ w64 (ofZ w64 (c .before .before .before .sums-of .result .summation)) ≡ S gas
   summation-is =
       let e = c .before .before .before .sums-of .ensures .1 .1 .1 in
       toZ-ofZ (fits64 _ (rw e (omega (arith, summation-high gas good)))) ∙ e
+
+shared-slice-read-metering : tie.Need-shared-slice-read-metering
+shared-slice-read-metering c = let s = c .before .before in omega (arith, accepted-head (s .args .bytes .now) (s .pre .1) .long)
 
 sums-of-requires : tie.Need-sums-of-requires
 sums-of-requires c κs = search needs
@@ -140,6 +145,7 @@ pub calculate-spec : {M : Type 1} → statement M
 calculate-spec =
     tie.close
     (tie.spec
+    shared-slice-read-metering
     sums-of-requires
     divisor-requires
     air-factor-requires

@@ -7,47 +7,23 @@ use Rattle.properties.proofs.Outcomes.{refused-properties, accepted-pro
 use Rattle.properties.proofs.properties_with_entries.Statement.{statement}
 use Rattle.properties.proofs.properties_with_entries.Tie as tie
 
-slice-aggregate-entries-refusal : tie.Need-slice-aggregate-entries-refusal
-slice-aggregate-entries-refusal c = search needs
-
-slice-aggregate-entries-refusal-2 : tie.Need-slice-aggregate-entries-refusal-2
-slice-aggregate-entries-refusal-2 c = search needs
-
 entries-refusal-requires : tie.Need-entries-refusal-requires
 entries-refusal-requires c κs = search needs
 
 returns : tie.Need-returns
 returns c =
-    let e = c .before .before .before in
-    refused-properties (e .before .before .before .before .args .bytes .now) (e .entries-refusal .ensures .0) (λ z. omega arith)
+    let e = c .before in
+    refused-properties (e .before .before .args .bytes .now) (e .entries-refusal .ensures) (λ z. omega arith)
 
-slice-aggregate-calculate-record : tie.Need-slice-aggregate-calculate-record
-slice-aggregate-calculate-record c = search needs
-
-slice-aggregate-calculate-record-2 : tie.Need-slice-aggregate-calculate-record-2
-slice-aggregate-calculate-record-2 c = search needs
-
-calculate-record-requires : tie.Need-calculate-record-requires
-calculate-record-requires c κs =
-    let j = c .before .before in
-    let e = j .before .before .before in
-    (e .before .before .before .before .pre .0, (sym (e .entries-refusal .ensures .0) ∙ j .if1 .left, e .entries-refusal .ensures .1))
+calculate-requires : tie.Need-calculate-requires
+calculate-requires c κs = search needs
 
 returns-2 : tie.Need-returns-2
 returns-2 c =
-    let j = c .before .before .before in
-    let e = j .before .before .before in
-    ap accepted (c .calculate-record .ensures) ∙ accepted-properties (e .before .before .before .before .args .bytes .now) (sym (e .entries-refusal .ensures .0) ∙ j .if1 .left)
+    let j = c .before in
+    let e = j .before in
+    ap accepted (c .calculate .ensures) ∙ accepted-properties (e .before .before .args .bytes .now) (sym (e .entries-refusal .ensures) ∙ j .if1 .left)
 
 pub properties-with-entries-spec : {M : Type 1} → statement M
 properties-with-entries-spec =
-    tie.close
-    (tie.spec
-    slice-aggregate-entries-refusal
-    slice-aggregate-entries-refusal-2
-    entries-refusal-requires
-    returns
-    slice-aggregate-calculate-record
-    slice-aggregate-calculate-record-2
-    calculate-record-requires
-    returns-2)
+    tie.close (tie.spec entries-refusal-requires returns calculate-requires returns-2)

@@ -1,54 +1,127 @@
--- The sums over the entries are those over all lines.
-use mathlib.Core.Path.{refl, sym, ap, _∙_}
-use Prim.Native.Nat.{ℕ}
+-- The loop keeps the four sums of the entries before i; the sums over the entries are those over all lines.
+use mathlib.Core.Path.{_≡_, refl, sym, ap, _∙_}
+use mathlib.Core.List.{List}
+use Prim.Native.Nat.{ℕ, _-_, _<_}
 use native.Mathlib.Omega.{arith}
-use borrow.Author.Needs.{needs}
+use lib.ListN.{length, drop}
 use Rattle.components.specs.Table.{superior, inferior, summation}
 use Rattle.components.specs.Composition.{sumOf}
-use Rattle.records.specs.Format.{Contents, contents}
-use Rattle.properties.specs.Chain.{HmSuperior, HmInferior, M, S}
+use Rattle.components.proofs.Summing.{Four, no-sums, sums-small, next-sums, all-sums}
+use Rattle.records.specs.Format.{entriesAt, combustionIn, meteringIn, countIn, linesIn, fractionsIn, contentsIn}
+use Rattle.records.specs.Accepted.{Acceptable}
+use Rattle.records.proofs.Heads.{Head}
+use Rattle.records.proofs.Entries.{length-lines}
+use Rattle.records.proofs.RoundTrips.{accepted-clear, accepted-head}
+use Rattle.records.proofs.Accepted.{acceptable}
+use Rattle.properties.specs.Chain.{combustionPlace, meteringPlace, HmSuperior, HmInferior, M, S}
 use Rattle.properties.proofs.StepBounds.{combustion-place, metering-place}
 use Rattle.properties.proofs.Gas.{amount-is, over-entries}
 use Rattle.properties.proofs.sums.sums_of.Statement.{statement}
 use Rattle.properties.proofs.sums.sums_of.Tie as tie
 
-module _ (c : tie.After-metering-place) where
-  abbrev start : tie.Start
-  start = c .before .before .before .before
+abbrev Inv-loop : tie.InvT-loop
+Inv-loop table bytes t k n sums₀ i₀ sums i =
+    Four t k (linesIn bytes) (fractionsIn bytes) (sums .superior) (sums .inferior) (sums .mass) (sums .summation) i
 
-  abbrev gas : Contents
-  gas = contents (start .args .combustion) (start .args .metering) (start .args .lines .now) (start .args .fractions .now)
+abbrev μ-loop : tie.MeasureT-loop
+μ-loop table bytes t k n sums₀ i₀ sums i = n - i
 
-combustion-place-requires : tie.Need-combustion-place-requires
-combustion-place-requires c κs = search needs
+module _ (c : tie.Start Inv-loop μ-loop) where
+  abbrev bs : List ℕ
+  bs = c .args .bytes .now
 
-metering-place-requires : tie.Need-metering-place-requires
-metering-place-requires c κs = search needs
+  headed : Head bs
+  headed = accepted-head bs (c .pre .1)
 
-sums-of-requires : tie.Need-sums-of-requires
-sums-of-requires c κs = (
-  start c .pre .0,
-  (
-    start c .pre .1 .composition,
-    (
-      omega (arith, c .before .combustion-place .ensures, combustion-place (start c .args .combustion)),
-      omega (arith, c .metering-place .ensures, metering-place (start c .args .metering)),
-    ),
-  ),
-)
+  good : Acceptable (contentsIn bs)
+  good = acceptable bs (c .pre .1)
 
-returns : tie.Need-returns
+  count : length (linesIn bs) ≡ countIn bs
+  count = length-lines (countIn bs) (drop entriesAt bs)
+
+module _ (at : tie.At-loop Inv-loop μ-loop) where
+  abbrev placed : tie.After-metering-place Inv-loop μ-loop
+  placed = at .before .before .before
+
+  abbrev start : tie.Start Inv-loop μ-loop
+  start = placed .before .before .before .before .before
+
+  combustion-is : placed .before .before .combustion-place .result ≡ combustionPlace (combustionIn (bs start))
+  combustion-is = placed .before .before .combustion-place .ensures
+
+  metering-is : placed .metering-place .result ≡ meteringPlace (meteringIn (bs start))
+  metering-is = placed .metering-place .ensures
+
+  combustion-known : placed .before .before .combustion-place .result < 4
+  combustion-known = rw combustion-is (combustion-place (combustionIn (bs start)))
+
+  metering-known : placed .metering-place .result < 3
+  metering-known = rw metering-is (metering-place (meteringIn (bs start)))
+
+shared-slice-read-combustion-place : tie.Need-shared-slice-read-combustion-place Inv-loop μ-loop
+shared-slice-read-combustion-place c = omega (arith, headed (c .before .before) .long)
+
+combustion-place-requires : tie.Need-combustion-place-requires Inv-loop μ-loop
+combustion-place-requires c κs = tt
+
+shared-slice-read-metering-place : tie.Need-shared-slice-read-metering-place Inv-loop μ-loop
+shared-slice-read-metering-place c = omega (arith, headed (c .before .before .before .before) .long)
+
+metering-place-requires : tie.Need-metering-place-requires Inv-loop μ-loop
+metering-place-requires c κs = tt
+
+shared-slice-read-n : tie.Need-shared-slice-read-n Inv-loop μ-loop
+shared-slice-read-n c = omega (arith, headed (c .before .before .before .before .before .before) .long)
+
+cast-n : tie.Need-cast-n Inv-loop μ-loop
+cast-n c = omega (arith, c .shared-slice-known4 .given 7)
+
+no-sums-requires : tie.Need-no-sums-requires Inv-loop μ-loop
+no-sums-requires c κs = tt
+
+loop-holds : tie.Need-loop-holds Inv-loop μ-loop
+loop-holds c = rw (c .no-sums .ensures) (no-sums _ _ _ _)
+
+line-in-requires : tie.Need-line-in-requires Inv-loop μ-loop
+line-in-requires c κs = let s = start (c .before) in (accepted-clear (bs s) (s .pre .1), omega arith)
+
+fraction-in-requires : tie.Need-fraction-in-requires Inv-loop μ-loop
+fraction-in-requires c κs = let s = start (c .before .before) in (accepted-clear (bs s) (s .pre .1), omega arith)
+
+add-to-sums-requires : tie.Need-add-to-sums-requires Inv-loop μ-loop
+add-to-sums-requires c κs =
+    let i = c .before in
+    let at = i .before .before in
+    let s = start at in
+    let l = good s .composition .lines (at .loop .i) (omega (arith, count s)) in
+    (s .pre .0, ((rw (i .line-in .ensures) (l .0), rw (i .line-in .ensures) (l .1), combustion-known at, metering-known at), sums-small (at .loop .inv) (good s .composition)))
+
+add-i : tie.Need-add-i Inv-loop μ-loop
+add-i c = omega (arith, headed (start (c .before .before .before .before)) .entries .few)
+
+loop-less : tie.Need-loop-less Inv-loop μ-loop
+loop-less c = omega arith
+
+loop-again : tie.Need-loop-again Inv-loop μ-loop
+loop-again c =
+    let f = c .before in
+    let i = f .before in
+    let at = i .before .before in
+    next-sums (at .loop .inv) (good (start at) .composition) (omega (arith, count (start at))) (rw (i .line-in .ensures, f .fraction-in .ensures) at (c .add-to-sums .ensures))
+
+returns : tie.Need-returns Inv-loop μ-loop
 unfolding HmSuperior HmInferior M S
 returns c =
-    let b = c .before in
-    let t = b .before .combustion-place .ensures in
-    let e = c .sums-of .ensures in (
-      amount-is (gas b) (start b .pre .1) (ap superior t) _ (e .0),
+    let at = c .before in
+    let k = contentsIn (bs (start at)) in
+    let a = good (start at) in
+    let e = all-sums (at .loop .inv) (omega (arith, count (start at))) in (
+      amount-is k a (ap superior (combustion-is at)) _ (e .0),
       (
-        amount-is (gas b) (start b .pre .1) (ap inferior t) _ (e .1 .0),
+        amount-is k a (ap inferior (combustion-is at)) _ (e .1 .0),
         (
-          amount-is (gas b) (start b .pre .1) refl _ (e .1 .1 .0),
-          e .1 .1 .1 ∙ ap (λ (k : ℕ). sumOf (summation k) (gas b .lines) (gas b .fractions)) (b .metering-place .ensures) ∙ sym (over-entries (gas b) (start b .pre .1) _),
+          amount-is k a refl _ (e .1 .1 .0),
+          e .1 .1 .1 ∙ ap (λ (j : ℕ). sumOf (summation j) (k .lines) (k .fractions)) (metering-is at) ∙ sym (over-entries k a _),
         ),
       ),
     )
@@ -57,7 +130,20 @@ pub sums-of-spec : {M : Type 1} → statement M
 sums-of-spec =
     tie.close
     (tie.spec
+    Inv-loop
+    μ-loop
+    shared-slice-read-combustion-place
     combustion-place-requires
+    shared-slice-read-metering-place
     metering-place-requires
-    sums-of-requires
+    shared-slice-read-n
+    cast-n
+    no-sums-requires
+    loop-holds
+    line-in-requires
+    fraction-in-requires
+    add-to-sums-requires
+    add-i
+    loop-less
+    loop-again
     returns)

@@ -1,0 +1,134 @@
+// The entry scan: 7 to 12 in one pass over the entries of a record, or over the two lists of the writer. 0 stands for none.
+ghost use mathlib.Core.Path.{_≡_};
+ghost use mathlib.Core.Bool.{false, _||_, cond};
+ghost use Prim.Native.Nat.{_+_, _^_, _≤_, _<_};
+ghost use lib.Dec.{eqb, leb, ltb};
+ghost use lib.ListN.{length};
+ghost use Rattle.records.specs.Order.{firstOf};
+ghost use Rattle.records.specs.Conditions.{methane, water, limitOf, aboveLimit, limitsOrder, headOrder, contentOrder, recordOrder};
+use super::conditions;
+use super::format;
+
+// What 8 to 12 need of the entries so far: whether a fraction is 0, the sum of the fractions, the fractions of methane and of water,
+// 0 where absent, and whether another line is above its limit.
+struct Scan {
+    zero: bool,
+    sum: u64,
+    methane: u32,
+    above: bool,
+    water: u32,
+}
+
+// A line number outside 1 to 55, or not above the one before; 0 stands before the first.
+fn line_breaks(before: u8, line: u8) -> bool
+    ensures { λ r. ⌜ r ≡ (leb line before || ltb 55 line) ⌝ }
+{
+    (line <= before) | (55 < line)
+}
+
+// A fraction in 64 bits.
+fn widened(x: u32) -> u64
+    ensures { λ r. ⌜ (r ≡ x) × (r < 2 ^ 32) ⌝ }
+{
+    x as u64
+}
+
+// The fraction of an entry where its line is the wanted one, and otherwise another.
+fn fraction_or(other: u32, wanted: u8, line: u8, fraction: u32) -> u32
+    ensures { λ r. ⌜ r ≡ cond (eqb line wanted) fraction other ⌝ }
+{
+    if line == wanted {
+        return fraction;
+    }
+    other
+}
+
+// Before the first entry.
+fn no_entries() -> Scan
+    ensures { λ r. ⌜ r ≡ record { zero = false; sum = 0; methane = 0; above = false; water = 0 } ⌝ }
+{
+    Scan {
+        zero: false,
+        sum: 0,
+        methane: 0,
+        above: false,
+        water: 0,
+    }
+}
+
+// With one more entry.
+fn with_entry(scan: Scan, line: u8, fraction: u32) -> Scan
+    requires { ⌜ scan .sum < 2 ^ 63 ⌝ }
+    ensures zero { λ r. ⌜ r .zero ≡ (scan .zero || eqb fraction 0) ⌝ }
+    ensures sum { λ r. ⌜ r .sum ≡ scan .sum + fraction ⌝ }
+    ensures methane { λ r. ⌜ r .methane ≡ cond (eqb line methane) fraction (scan .methane) ⌝ }
+    ensures above { λ r. ⌜ r .above ≡ (scan .above || aboveLimit line fraction) ⌝ }
+    ensures water { λ r. ⌜ r .water ≡ cond (eqb line water) fraction (scan .water) ⌝ }
+{
+    Scan {
+        zero: scan.zero | (fraction == 0),
+        sum: scan.sum + widened(fraction),
+        methane: fraction_or(scan.methane, conditions::METHANE, line, fraction),
+        above: scan.above | conditions::above_limit(line, fraction),
+        water: fraction_or(scan.water, conditions::WATER, line, fraction),
+    }
+}
+
+// 8 to 12, after the last entry.
+fn scan_number(scan: Scan) -> u8
+    ensures { λ r. ⌜ r ≡ cond (scan .zero) 8 (firstOf (limitsOrder (ltb (scan .sum) 999900 || ltb 1000100 (scan .sum)) (ltb (scan .methane) 500000) (scan .above) (ltb (limitOf water) (scan .water)))) ⌝ }
+{
+    if scan.zero {
+        return 8;
+    }
+    let sum_wrong = (scan.sum < 999900) | (1000100 < scan.sum);
+    let methane_low = scan.methane < 500000;
+    let water_high = conditions::limit_of(conditions::WATER) < scan.water;
+    conditions::limits_number(sum_wrong, methane_low, scan.above, water_high)
+}
+
+// 7 to 12 of a record where none of 1 to 6 holds. The first line number that breaks 7 ends the scan.
+pub fn entries_refusal(bytes: &[u8]) -> u8
+    requires { ⌜ firstOf (headOrder (now bytes)) ≡ 0 ⌝ }
+    ensures { λ r. ⌜ r ≡ firstOf (recordOrder (now (bytes .entry))) ⌝ }
+{
+    let n = bytes[7] as usize;
+    let mut scan = no_entries();
+    let mut before: u8 = 0;
+    let mut k = 0;
+    'scan: loop {
+        if k >= n {
+            break 'scan scan_number(scan);
+        }
+        let line = format::line_in(bytes, k);
+        if line_breaks(before, line) {
+            break 'scan 7;
+        }
+        scan = with_entry(scan, line, format::fraction_in(bytes, k));
+        before = line;
+        k += 1;
+    }
+}
+
+// The same of the writer's two lists.
+pub fn content_refusal(lines: &[u8], fractions: &[u32]) -> u8
+    requires { ⌜ length (now lines) ≡ length (now fractions) ⌝ }
+    requires { ⌜ length (now fractions) ≤ 55 ⌝ }
+    ensures { λ r. ⌜ r ≡ firstOf (contentOrder (now (lines .entry)) (now (fractions .entry))) ⌝ }
+{
+    let mut scan = no_entries();
+    let mut before: u8 = 0;
+    let mut k = 0;
+    'scan: loop {
+        if k >= lines.len() {
+            break 'scan scan_number(scan);
+        }
+        let line = lines[k];
+        if line_breaks(before, line) {
+            break 'scan 7;
+        }
+        scan = with_entry(scan, line, fractions[k]);
+        before = line;
+        k += 1;
+    }
+}
