@@ -11,10 +11,11 @@ mod single;
 mod table_4;
 mod table_5;
 mod table_d1;
+mod tables;
 
 fn main() {
     let table = components::component_table();
-    per_cubic_metre::compare(&table);
-    per_kilogram::compare(&table);
+    tables::compare(5, &table, &table_5::FIGURES, 12);
+    tables::compare(4, &table, &table_4::FIGURES, 8);
     annex_d::compare(&table);
 }

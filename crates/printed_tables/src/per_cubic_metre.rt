@@ -3,10 +3,8 @@ ghost use mathlib.Core.Path.{_≡_};
 ghost use Prim.Native.Nat.{_≤_, _<_};
 ghost use Rattle.components.specs.Table.{componentTable};
 use super::figures;
-use super::figures::Counts;
 use super::places;
 use super::single;
-use super::table_5;
 use libc::STDOUT_FILENO;
 use properties::steps;
 
@@ -32,7 +30,7 @@ fn metering(pair: usize) -> u8 {
 }
 
 // Three decimals for methane and hydrogen, two for the other lines.
-fn scale(line: u8) -> u64
+pub fn scale(line: u8) -> u64
     ensures { λ r. ⌜ (0 < r) × (r ≤ 1000) ⌝ }
 {
     if line == 1 {
@@ -53,7 +51,7 @@ pub fn value(hm: u64, metering: u8) -> u64
 }
 
 // The calculated figure of a line and a column.
-fn calculated(table: &[[i32; 12]; 55], line: u8, column: usize) -> u64
+pub fn calculated(table: &[[i32; 12]; 55], line: u8, column: usize) -> u64
     requires { ⌜ now table ≡ componentTable ⌝ }
     requires { ⌜ (1 ≤ line) × (line ≤ 55) ⌝ }
 {
@@ -62,63 +60,10 @@ fn calculated(table: &[[i32; 12]; 55], line: u8, column: usize) -> u64
     figures::digits(value(hm, metering(pair)), 1000000, scale(line))
 }
 
-// The printed figure of a line and a column.
-fn printed(table: &[[u32; 12]; 48], line: u8, column: usize) -> u32
-    requires { ⌜ (1 ≤ line) × (line ≤ 48) × (column < 12) ⌝ }
-{
-    table[line as usize - 1][column]
-}
-
-fn report(line: u8, column: usize, printed: u64, calculated: u64) {
-    if printed == calculated {
-        return;
-    }
+// The pair of a column.
+pub fn print_conditions(column: usize) {
     let pair = column / 2;
-    places::print_place(b"table 5", line, column);
     places::print_combustion(combustion_place(pair));
     io::write_all(STDOUT_FILENO, b"/");
     io::print_decimal(STDOUT_FILENO, metering(pair) as u64);
-    figures::print_difference(printed, calculated, scale(line));
-}
-
-fn compare_line(
-    table: &[[i32; 12]; 55],
-    figures: &[[u32; 12]; 48],
-    line: u8,
-    before: Counts,
-) -> Counts
-    requires { ⌜ now table ≡ componentTable ⌝ }
-    requires { ⌜ (1 ≤ line) × (line ≤ 48) ⌝ }
-{
-    let mut counts = before;
-    for column in 0..12 {
-        let printed = printed(figures, line, column) as u64;
-        let calculated = calculated(table, line, column);
-        report(line, column, printed, calculated);
-        counts = counts.with(printed, calculated);
-    }
-    counts
-}
-
-fn compare_lines(table: &[[i32; 12]; 55]) -> Counts
-    requires { ⌜ now table ≡ componentTable ⌝ }
-{
-    let figures = table_5::TABLE;
-    let mut counts = Counts::new();
-    for line in 1..=48 {
-        counts = compare_line(table, &figures, line, counts);
-    }
-    counts
-}
-
-pub fn compare(table: &[[i32; 12]; 55])
-    requires { ⌜ now table ≡ componentTable ⌝ }
-{
-    let counts = compare_lines(table);
-    io::write_all(STDOUT_FILENO, b"table 5: ");
-    counts.print();
-    io::write_all(
-        STDOUT_FILENO,
-        b"not compared: the names of table 5; it has no lines 49 to 55\n",
-    );
 }

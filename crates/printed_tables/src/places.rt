@@ -1,9 +1,14 @@
 // The places of figures in tables 4 and 5.
 use libc::STDOUT_FILENO;
 
+pub fn print_table(number: u8) {
+    io::write_all(STDOUT_FILENO, b"table ");
+    io::print_decimal(STDOUT_FILENO, number as u64);
+}
+
 // The place of a figure in a table: its line, and superior or inferior by its column.
-pub fn print_place(name: &[u8], line: u8, column: usize) {
-    io::write_all(STDOUT_FILENO, name);
+pub fn print_place(number: u8, line: u8, column: usize) {
+    print_table(number);
     io::write_all(STDOUT_FILENO, b", line ");
     io::print_decimal(STDOUT_FILENO, line as u64);
     print_kind(column);
