@@ -1,9 +1,7 @@
 // The analysis record of document 01: read, written, and read and written again. Every list of bytes, and every composition and
 // buffer, gets its answer or the one number of its refusal.
 ghost use mathlib.Core.Path.{_≡_};
-ghost use Rattle.records.specs.Order.{firstOf};
 ghost use Rattle.records.specs.Format.{contents};
-ghost use Rattle.records.specs.Conditions.{headOrder};
 ghost use Rattle.records.specs.Answers.{Reads, Writes, Rewrites, verdictOf, blank};
 
 mod conditions;
@@ -69,14 +67,6 @@ pub fn read(bytes: &[u8]) -> Reading
     if head != 0 {
         return refused(head);
     }
-    read_content(bytes)
-}
-
-// Reads a record where none of 1 to 6 holds.
-fn read_content(bytes: &[u8]) -> Reading
-    requires { ⌜ firstOf (headOrder (now bytes)) ≡ 0 ⌝ }
-    ensures { λ r. ⌜ Reads (now (bytes .entry)) r ⌝ }
-{
     let refusal = scan::entries_refusal(bytes);
     if refusal != 0 {
         return refused(refusal);
