@@ -23,27 +23,27 @@ Found line ls xs before noted k =
     ((line ≤ before) × (fractionFor line ls xs ≡ noted)) ⊎ ((noted ≡ 0) × (fractionFor line ls xs ≡ fractionFor line (drop k ls) (drop k xs)))
 
 -- what is noted of the entries before k, the last of which has the line number before
-pub record Noted (ls xs : List ℕ) (before : ℕ) (zero : Bool) (sum first : ℕ) (above : Bool) (second k : ℕ) : Type 0 where
+pub record Noted (ls xs : List ℕ) (before : ℕ) (zero : Bool) (sum ofMethane : ℕ) (above : Bool) (ofWater k : ℕ) : Type 0 where
   pub within : k ≤ length ls
   pub small : sum ≤ k * 2 ^ 32
-  pub breaks : lineBreaks 0 ls ≡ lineBreaks before (drop k ls)
-  pub zeros : fractionZero xs ≡ (zero || fractionZero (drop k xs))
+  pub lines : lineBreaks 0 ls ≡ lineBreaks before (drop k ls)
+  pub any-zero : fractionZero xs ≡ (zero || fractionZero (drop k xs))
   pub whole : total xs ≡ sum + total (drop k xs)
-  pub methanes : Found methane ls xs before first k
-  pub aboves : anyAbove ls xs ≡ (above || anyAbove (drop k ls) (drop k xs))
-  pub waters : Found water ls xs before second k
+  pub methane-found : Found methane ls xs before ofMethane k
+  pub any-above : anyAbove ls xs ≡ (above || anyAbove (drop k ls) (drop k xs))
+  pub water-found : Found water ls xs before ofWater k
 
 pub nothing-noted : (ls xs : List ℕ) → Noted ls xs 0 false 0 0 false 0 0
 nothing-noted ls xs =
     record {
       within = omega arith;
       small = omega arith;
-      breaks = refl;
-      zeros = refl;
+      lines = refl;
+      any-zero = refl;
       whole = omega arith;
-      methanes = inr (refl, refl);
-      aboves = refl;
-      waters = inr (refl, refl);
+      methane-found = inr (refl, refl);
+      any-above = refl;
+      water-found = inr (refl, refl);
     }
 
 -- one more entry, whose line number is above the one before
@@ -56,7 +56,7 @@ found-step line l x before noted rest whole false is h (inl (p, e)) = inl (omega
 found-step line l x before noted rest whole false is h (inr (z, e)) = inr (z, e)
 
 -- at an entry
-module _ {ls xs : List ℕ} {before : ℕ} {zero : Bool} {sum first : ℕ} {above : Bool} {second k : ℕ} (n : Noted ls xs before zero sum first above second k)
+module _ {ls xs : List ℕ} {before : ℕ} {zero : Bool} {sum ofMethane : ℕ} {above : Bool} {ofWater k : ℕ} (n : Noted ls xs before zero sum ofMethane above ofWater k)
     (hl : k < length ls) where
   abbrev l : ℕ
   l = getD ls k 0
@@ -66,7 +66,7 @@ module _ {ls xs : List ℕ} {before : ℕ} {zero : Bool} {sum first : ℕ} {abov
 
   lines-step : lineBreaks 0 ls ≡ ((leb l before || ltb 55 l) || lineBreaks l (drop (k + 1) ls))
   unfolding lineBreaks
-  lines-step = n .breaks ∙ rw (add-one, drop-cons ls k 0, or-assoc (leb l before))
+  lines-step = n .lines ∙ rw (add-one, drop-cons ls k 0, or-assoc (leb l before))
 
   -- 7 holds
   pub breaks-here : (leb l before || ltb 55 l) ≡ true → 7 ≡ firstOf (contentOrder ls xs)
@@ -82,18 +82,18 @@ module _ {ls xs : List ℕ} {before : ℕ} {zero : Bool} {sum first : ℕ} {abov
         found-step line l x before noted _ _ (eqb l line) (λ t. eqb→eq l line t) (leb-false _ _ (neither _ _ h .0)) (rw (left line) at f)
 
     pub next-noted : x < 2 ^ 32
-        → Noted ls xs l (zero || eqb x 0) (sum + x) (cond (eqb l methane) x first) (above || aboveLimit l x) (cond (eqb l water) x second) (k + 1)
+        → Noted ls xs l (zero || eqb x 0) (sum + x) (cond (eqb l methane) x ofMethane) (above || aboveLimit l x) (cond (eqb l water) x ofWater) (k + 1)
     unfolding fractionZero anyAbove
     next-noted w =
         record {
           within = omega arith;
           small = omega (arith, n .small);
-          breaks = lines-step ∙ rw h;
-          zeros = n .zeros ∙ rw (add-one, drop-cons xs k 0, or-assoc zero);
+          lines = lines-step ∙ rw h;
+          any-zero = n .any-zero ∙ rw (add-one, drop-cons xs k 0, or-assoc zero);
           whole = omega (arith, n .whole, total-step xs k hx);
-          methanes = found methane first (n .methanes);
-          aboves = n .aboves ∙ rw (add-one, drop-cons ls k 0, drop-cons xs k 0, or-assoc above);
-          waters = found water second (n .waters);
+          methane-found = found methane ofMethane (n .methane-found);
+          any-above = n .any-above ∙ rw (add-one, drop-cons ls k 0, drop-cons xs k 0, or-assoc above);
+          water-found = found water ofWater (n .water-found);
         }
 
 -- after the last entry
@@ -102,16 +102,16 @@ unfolding fractionFor
 found-all line ls xs before noted k h (inl (p, e)) = e
 found-all line ls xs before noted k h (inr (z, e)) = e ∙ rw (drop-of-length-le ls h, z)
 
-module _ {ls xs : List ℕ} {before : ℕ} {zero : Bool} {sum first : ℕ} {above : Bool} {second k : ℕ} (n : Noted ls xs before zero sum first above second k)
+module _ {ls xs : List ℕ} {before : ℕ} {zero : Bool} {sum ofMethane : ℕ} {above : Bool} {ofWater k : ℕ} (n : Noted ls xs before zero sum ofMethane above ofWater k)
     (hl : length ls ≤ k) (hx : length xs ≤ k) where
-  pub all-noted : {r : ℕ} → r ≡ cond zero 8 (firstOf (limitsOrder (ltb sum 999900 || ltb 1000100 sum) (ltb first 500000) above (ltb (limitOf water) second)))
+  pub all-noted : {r : ℕ} → r ≡ cond zero 8 (firstOf (limitsOrder (ltb sum 999900 || ltb 1000100 sum) (ltb ofMethane 500000) above (ltb (limitOf water) ofWater)))
       → r ≡ firstOf (contentOrder ls xs)
   unfolding lineBreaks fractionZero anyAbove total
   all-noted e =
       let el = drop-of-length-le ls hl in
       let ex = drop-of-length-le xs hx in
-      let b : lineBreaks 0 ls ≡ false = n .breaks ∙ rw el in
-      let z : fractionZero xs ≡ zero = n .zeros ∙ rw (ex, or-false) in
+      let b : lineBreaks 0 ls ≡ false = n .lines ∙ rw el in
+      let z : fractionZero xs ≡ zero = n .any-zero ∙ rw (ex, or-false) in
       let t : total xs ≡ sum = n .whole ∙ rw (ex, add-zero) in
-      let a : anyAbove ls xs ≡ above = n .aboves ∙ rw (el, or-false) in
-      e ∙ rw (b, z, t, found-all methane ls xs before first k hl (n .methanes), a, found-all water ls xs before second k hl (n .waters))
+      let a : anyAbove ls xs ≡ above = n .any-above ∙ rw (el, or-false) in
+      e ∙ rw (b, z, t, found-all methane ls xs before ofMethane k hl (n .methane-found), a, found-all water ls xs before ofWater k hl (n .water-found))
