@@ -3,9 +3,9 @@ use mathlib.Core.Path.{_≡_, sym, ap, _∙_}
 use mathlib.Core.List.{List}
 use Prim.Native.Nat.{ℕ}
 use Rattle.records.specs.Order.{firstOf, refused, accepted, decided, mapped}
-use Rattle.records.specs.Format.{linesIn, fractionsIn, contentsIn}
-use Rattle.records.specs.Conditions.{headOrder, contentOrder, recordOrder}
-use Rattle.records.proofs.OrderLaws.{stops, mapped-decided, refuses, decided-accepted, decided-refused}
+use Rattle.records.specs.Format.{contentsIn}
+use Rattle.records.specs.Conditions.{recordOrder}
+use Rattle.records.proofs.OrderLaws.{mapped-decided, refuses, decided-accepted, decided-refused}
 use Rattle.records.proofs.FirstBytes as records
 use Rattle.properties.specs.Chain.{Six, sixOf, propertiesOf, FirstBytesDecide}
 
@@ -13,9 +13,6 @@ pub refused-properties : (bs : List ℕ) {n : ℕ} → n ≡ firstOf (recordOrde
 refused-properties bs e h =
     ap refused e
     ∙ sym (mapped-decided sixOf (firstOf (recordOrder bs)) (contentsIn bs) ∙ refuses (firstOf (recordOrder bs)) (sixOf (contentsIn bs)) (λ z. h (e ∙ z)))
-
-pub head-refused : (bs : List ℕ) {n : ℕ} → n ≡ firstOf (headOrder bs) → (n ≡ 0 → ⊥) → refused n ≡ propertiesOf bs
-head-refused bs e h = refused-properties bs (stops (headOrder bs) (contentOrder (linesIn bs) (fractionsIn bs)) e h) h
 
 pub accepted-properties : (bs : List ℕ) → firstOf (recordOrder bs) ≡ 0 → accepted (sixOf (contentsIn bs)) ≡ propertiesOf bs
 accepted-properties bs e = sym (ap (λ (n : ℕ). mapped sixOf (decided n (contentsIn bs))) e)

@@ -4,7 +4,7 @@ ghost use mathlib.Core.Path.{_≡_};
 ghost use Rattle.records.specs.Order.{firstOf};
 ghost use Rattle.components.specs.Table.{componentTable};
 ghost use Rattle.records.specs.Format.{contentsIn};
-ghost use Rattle.records.specs.Conditions.{recordOrder};
+ghost use Rattle.records.specs.Conditions.{headOrder, recordOrder};
 ghost use Rattle.properties.specs.Chain.{sixOf, propertiesOf};
 ghost use Rattle.properties.specs.Answers.{numbers, meaning};
 
@@ -68,6 +68,14 @@ pub fn properties_of(bytes: &[u8]) -> Answer
     if head != 0 {
         return Answer::Refused(head);
     }
+    properties_of_entries(bytes)
+}
+
+// The same where none of 1 to 6 holds.
+fn properties_of_entries(bytes: &[u8]) -> Answer
+    requires { ⌜ firstOf (headOrder (now bytes)) ≡ 0 ⌝ }
+    ensures { λ r. ⌜ meaning r ≡ propertiesOf (now (bytes .entry)) ⌝ }
+{
     let refusal = records::entries_refusal(bytes);
     if refusal != 0 {
         return Answer::Refused(refusal);
@@ -76,7 +84,7 @@ pub fn properties_of(bytes: &[u8]) -> Answer
     Answer::Accepted(calculate(&table, bytes))
 }
 
-// The same by a component table that the caller has made, so that many records need it made once.
+// The properties of a record by a component table that the caller has made, so that many records need it made once.
 pub fn properties_with(table: &[[i32; 12]; 55], bytes: &[u8]) -> Answer
     requires { ⌜ now table ≡ componentTable ⌝ }
     ensures { λ r. ⌜ meaning r ≡ propertiesOf (now (bytes .entry)) ⌝ }
@@ -85,6 +93,15 @@ pub fn properties_with(table: &[[i32; 12]; 55], bytes: &[u8]) -> Answer
     if head != 0 {
         return Answer::Refused(head);
     }
+    properties_with_entries(table, bytes)
+}
+
+// The same where none of 1 to 6 holds.
+fn properties_with_entries(table: &[[i32; 12]; 55], bytes: &[u8]) -> Answer
+    requires { ⌜ now table ≡ componentTable ⌝ }
+    requires { ⌜ firstOf (headOrder (now bytes)) ≡ 0 ⌝ }
+    ensures { λ r. ⌜ meaning r ≡ propertiesOf (now (bytes .entry)) ⌝ }
+{
     let refusal = records::entries_refusal(bytes);
     if refusal != 0 {
         return Answer::Refused(refusal);

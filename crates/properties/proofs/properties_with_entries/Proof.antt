@@ -1,0 +1,29 @@
+-- The number of the entries, or the properties of what they hold.
+use mathlib.Core.Path.{sym, ap, _∙_}
+use native.Mathlib.Omega.{arith}
+use borrow.Author.Needs.{needs}
+use Rattle.records.specs.Order.{accepted}
+use Rattle.properties.proofs.Outcomes.{refused-properties, accepted-properties}
+use Rattle.properties.proofs.properties_with_entries.Statement.{statement}
+use Rattle.properties.proofs.properties_with_entries.Tie as tie
+
+entries-refusal-requires : tie.Need-entries-refusal-requires
+entries-refusal-requires c κs = search needs
+
+returns : tie.Need-returns
+returns c =
+    let e = c .before in
+    refused-properties (e .before .before .args .bytes .now) (e .entries-refusal .ensures) (λ z. omega arith)
+
+calculate-requires : tie.Need-calculate-requires
+calculate-requires c κs = search needs
+
+returns-2 : tie.Need-returns-2
+returns-2 c =
+    let j = c .before in
+    let e = j .before in
+    ap accepted (c .calculate .ensures) ∙ accepted-properties (e .before .before .args .bytes .now) (sym (e .entries-refusal .ensures) ∙ j .if1 .left)
+
+pub properties-with-entries-spec : {M : Type 1} → statement M
+properties-with-entries-spec =
+    tie.close (tie.spec entries-refusal-requires returns calculate-requires returns-2)
