@@ -1,6 +1,9 @@
 //! Compares the proved library with the plain implementation on many records.
 //!
 //! `cargo test --offline --release --test differential -- --records N --seed S`
+//!
+//! S is a whole number, or `random` for one from the clock. The seed is
+//! printed, with the command that repeats the run.
 
 mod plain;
 mod records;
@@ -33,6 +36,12 @@ fn main() -> ExitCode {
     }
 }
 
+/// A seed that differs from run to run.
+fn seed_of_now() -> u64 {
+    let now = std::time::SystemTime::now().duration_since(std::time::UNIX_EPOCH);
+    now.map_or(0, |since| since.as_nanos() as u64)
+}
+
 struct Arguments {
     records: u64,
     seed: u64,
@@ -53,9 +62,12 @@ impl Arguments {
                 _ => continue,
             };
             let value = given.next().unwrap_or_default();
-            *target = value
-                .parse()
-                .map_err(|_| format!("{name} wants a whole number, not '{value}'"))?;
+            *target = match value.as_str() {
+                "random" => seed_of_now(),
+                _ => value
+                    .parse()
+                    .map_err(|_| format!("{name} wants a whole number, not '{value}'"))?,
+            };
         }
         Ok(arguments)
     }

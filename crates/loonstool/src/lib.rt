@@ -1,6 +1,6 @@
 // The library for firmware in C and Rust: the properties of a record, and records read and written. include/loonstool.h declares its
-// functions for C, rust/ wraps them for Rust. Each gives 0 where the call is accepted, or document 01's number; a refusal leaves what
-// the caller lent as it was.
+// functions for C, rust/ wraps them for Rust. Each but `loonstool_make_table` gives 0 where the call is accepted, or document 01's number;
+// a refusal leaves what the caller lent as it was.
 ghost use mathlib.Core.Path.{_≡_};
 ghost use Rattle.components.specs.Table.{componentTable};
 ghost use Rattle.records.specs.Order.{mapped};
