@@ -1,12 +1,12 @@
 // The properties as quantities. SCALE is how many of the quantity's unit make 1 of the standard's, BOUND the ceiling that no value
-// passes.
+// passes. Every ceiling is below 2^32, so a value is kept in 32 bits.
 ghost use mathlib.Core.Path.{_≡_};
 ghost use Prim.Native.Nat.{_≤_};
 ghost use Rattle.properties.specs.Quantities.{compressionBound, calorificBound, densityBound, relativeBound, wobbeBound, scales, bounds};
 
 // A compression factor, unit 10^-9.
 pub struct CompressionFactor {
-    value: u64,
+    value: u32,
 }
 
 impl CompressionFactor {
@@ -18,19 +18,21 @@ impl CompressionFactor {
         requires { ⌜ value ≤ compressionBound ⌝ }
         ensures { λ r. ⌜ r .value ≡ value ⌝ }
     {
-        Self { value }
+        Self {
+            value: value as u32,
+        }
     }
 
     pub fn value(self) -> u64
         ensures { λ r. ⌜ r ≡ self .value ⌝ }
     {
-        self.value
+        self.value as u64
     }
 }
 
 // A calorific value, unit J/m³. SCALE of them make 1 MJ/m³.
 pub struct CalorificValue {
-    value: u64,
+    value: u32,
 }
 
 impl CalorificValue {
@@ -42,19 +44,21 @@ impl CalorificValue {
         requires { ⌜ value ≤ calorificBound ⌝ }
         ensures { λ r. ⌜ r .value ≡ value ⌝ }
     {
-        Self { value }
+        Self {
+            value: value as u32,
+        }
     }
 
     pub fn value(self) -> u64
         ensures { λ r. ⌜ r ≡ self .value ⌝ }
     {
-        self.value
+        self.value as u64
     }
 }
 
 // A density, unit 10^-8 kg/m³. SCALE of them make 1 kg/m³.
 pub struct Density {
-    value: u64,
+    value: u32,
 }
 
 impl Density {
@@ -66,19 +70,21 @@ impl Density {
         requires { ⌜ value ≤ densityBound ⌝ }
         ensures { λ r. ⌜ r .value ≡ value ⌝ }
     {
-        Self { value }
+        Self {
+            value: value as u32,
+        }
     }
 
     pub fn value(self) -> u64
         ensures { λ r. ⌜ r ≡ self .value ⌝ }
     {
-        self.value
+        self.value as u64
     }
 }
 
 // A relative density, unit 10^-8.
 pub struct RelativeDensity {
-    value: u64,
+    value: u32,
 }
 
 impl RelativeDensity {
@@ -90,19 +96,21 @@ impl RelativeDensity {
         requires { ⌜ value ≤ relativeBound ⌝ }
         ensures { λ r. ⌜ r .value ≡ value ⌝ }
     {
-        Self { value }
+        Self {
+            value: value as u32,
+        }
     }
 
     pub fn value(self) -> u64
         ensures { λ r. ⌜ r ≡ self .value ⌝ }
     {
-        self.value
+        self.value as u64
     }
 }
 
 // A Wobbe index, unit J/m³. SCALE of them make 1 MJ/m³.
 pub struct WobbeIndex {
-    value: u64,
+    value: u32,
 }
 
 impl WobbeIndex {
@@ -114,13 +122,15 @@ impl WobbeIndex {
         requires { ⌜ value ≤ wobbeBound ⌝ }
         ensures { λ r. ⌜ r .value ≡ value ⌝ }
     {
-        Self { value }
+        Self {
+            value: value as u32,
+        }
     }
 
     pub fn value(self) -> u64
         ensures { λ r. ⌜ r ≡ self .value ⌝ }
     {
-        self.value
+        self.value as u64
     }
 }
 
