@@ -31,8 +31,8 @@
 #include <stddef.h>
 #include <stdint.h>
 
-#if SIZE_MAX != UINT64_MAX
-#error "libloonstool.a is for x86-64"
+#if !defined(__x86_64__) || defined(_WIN32) || SIZE_MAX != UINT64_MAX
+#error "libloonstool.a is for x86-64 with the System V calling convention"
 #endif
 
 #ifdef __cplusplus

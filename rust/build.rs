@@ -5,6 +5,11 @@ use std::path::PathBuf;
 
 fn main() {
     println!("cargo:rerun-if-env-changed=LOONSTOOL_LIB_DIR");
+    let target = |what| env::var(what).unwrap_or_default();
+    if target("CARGO_CFG_TARGET_ARCH") != "x86_64" || target("CARGO_CFG_TARGET_OS") == "windows" {
+        eprintln!("libloonstool.a is for x86-64 with the System V calling convention");
+        std::process::exit(1);
+    }
     let folder = match env::var_os("LOONSTOOL_LIB_DIR") {
         Some(folder) => PathBuf::from(folder),
         None => PathBuf::from(env!("CARGO_MANIFEST_DIR")).join("../target/staticlib"),

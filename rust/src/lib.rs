@@ -19,7 +19,7 @@
 
 mod refusal;
 
-use core::mem::MaybeUninit;
+use core::mem::{offset_of, size_of, MaybeUninit};
 
 pub use refusal::Refusal;
 
@@ -48,6 +48,14 @@ pub struct Properties {
     /// Wobbe index, unit J/m³.
     pub w: u64,
 }
+
+// The library fills six numbers of 64 bits in document 01's order.
+const _: () = {
+    assert!(size_of::<Properties>() == 48);
+    assert!(offset_of!(Properties, z) == 0 && offset_of!(Properties, hs) == 8);
+    assert!(offset_of!(Properties, hi) == 16 && offset_of!(Properties, rho) == 24);
+    assert!(offset_of!(Properties, d) == 32 && offset_of!(Properties, w) == 40);
+};
 
 impl Properties {
     /// The ceilings, which no property passes.

@@ -101,6 +101,10 @@ fn unaligned_bytes() {
         record.copy_from_slice(&k1_record());
         assert_eq!(properties_of(record), Ok(k1_properties()));
         assert_eq!(Calculator::new().properties_of(record), Ok(k1_properties()));
+        assert_eq!(
+            Calculator::default().properties_of(record),
+            Ok(k1_properties())
+        );
         assert_eq!(read(record), Ok(k1_analysis()));
         expect_written(record, Ok(BYTES));
         expect_written(&mut place[at..], Ok(BYTES));

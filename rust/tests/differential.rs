@@ -10,7 +10,7 @@ mod records;
 mod sides;
 
 use loonstool::{Calculator, Properties};
-use records::{case, limit, Draft, Random, WriterCall, LEAST_METHANE, PAIRS, SUM};
+use records::{case, Draft, Limits, Random, WriterCall, PAIRS};
 use std::fmt::Write as _;
 use std::io::IsTerminal;
 use std::process::ExitCode;
@@ -36,10 +36,21 @@ fn main() -> ExitCode {
     }
 }
 
-/// A seed that differs from run to run.
-fn seed_of_now() -> u64 {
+/// A whole number, or what is wrong with it.
+fn number(name: &str, value: Option<String>) -> Result<u64, String> {
+    let value = value.unwrap_or_default();
+    value
+        .parse()
+        .map_err(|_| format!("{name} wants a whole number, not '{value}'"))
+}
+
+/// A seed, or `random` for one from the clock.
+fn seed(name: &str, value: Option<String>) -> Result<u64, String> {
+    if value.as_deref() != Some("random") {
+        return number(name, value);
+    }
     let now = std::time::SystemTime::now().duration_since(std::time::UNIX_EPOCH);
-    now.map_or(0, |since| since.as_nanos() as u64)
+    Ok(now.map_or(0, |since| since.as_nanos() as u64))
 }
 
 struct Arguments {
@@ -48,7 +59,8 @@ struct Arguments {
 }
 
 impl Arguments {
-    /// From the command line; unknown arguments are passed over.
+    /// From the command line. Others than these two are passed over, and named:
+    /// cargo hands the words of `cargo test WORD` to every test.
     fn given() -> Result<Self, String> {
         let mut arguments = Self {
             records: DEFAULT_RECORDS,
@@ -56,18 +68,11 @@ impl Arguments {
         };
         let mut given = std::env::args().skip(1);
         while let Some(name) = given.next() {
-            let target = match name.as_str() {
-                "--records" => &mut arguments.records,
-                "--seed" => &mut arguments.seed,
-                _ => continue,
-            };
-            let value = given.next().unwrap_or_default();
-            *target = match value.as_str() {
-                "random" => seed_of_now(),
-                _ => value
-                    .parse()
-                    .map_err(|_| format!("{name} wants a whole number, not '{value}'"))?,
-            };
+            match name.as_str() {
+                "--records" => arguments.records = number(&name, given.next())?,
+                "--seed" => arguments.seed = seed(&name, given.next())?,
+                _ => println!("passed over: {name}"),
+            }
         }
         Ok(arguments)
     }
@@ -88,10 +93,16 @@ impl Arguments {
     fn print_due(&self) {
         let due = self.due();
         println!("due at least, of each refusal of each call, each pair and each line: {due}");
+        println!("due at least, of each limit: {}", due_of_limits(due));
         if due < DUE {
             println!("({DUE} are due in {DEFAULT_RECORDS} records; this run has fewer records)");
         }
     }
+}
+
+/// How often each limit is due, met and passed by one.
+fn due_of_limits(due: u64) -> u64 {
+    due.div_ceil(10)
 }
 
 fn run(arguments: &Arguments) -> ExitCode {
@@ -200,7 +211,7 @@ impl Counts {
         let (line, count) = self.least_line();
         println!("least of the 55 lines in accepted records: line {line}, {count} times");
         let (name, count) = self.limits.least();
-        println!("least of the limits, on it and one past it: {name}, {count} times");
+        println!("least of the limits, met and passed by one: {name}, {count} times");
     }
 
     /// What occurs less often than due, and what a call cannot give.
@@ -233,71 +244,10 @@ impl Counts {
             failures.push(format!("line {line} only {count} times"));
         }
         let (name, count) = self.limits.least();
-        if count < due.div_ceil(10) {
+        if count < due_of_limits(due) {
             failures.push(format!("{name} only {count} times"));
         }
         failures
-    }
-}
-
-/// How often a fraction or a sum was on a limit and one past it, in records
-/// that none of 1 to 8 refuses.
-struct Limits {
-    sums: [u64; 4],
-    /// For each line the limit and one past it; methane's is its least.
-    lines: [[u64; 2]; 56],
-}
-
-/// The sums on and one past their limits.
-const SUMS: [u64; 4] = [
-    SUM.0 as u64 - 1,
-    SUM.0 as u64,
-    SUM.1 as u64,
-    SUM.1 as u64 + 1,
-];
-
-impl Limits {
-    fn none() -> Self {
-        Self {
-            sums: [0; 4],
-            lines: [[0; 2]; 56],
-        }
-    }
-
-    fn book(&mut self, record: &[u8]) {
-        let mut sum = 0;
-        for entry in record[8..].chunks_exact(5) {
-            let fraction = u32::from_le_bytes([entry[1], entry[2], entry[3], entry[4]]);
-            let (on, past) = match entry[0] {
-                1 => (LEAST_METHANE, LEAST_METHANE - 1),
-                line => (limit(line), limit(line) + 1),
-            };
-            let counts = &mut self.lines[usize::from(entry[0])];
-            counts[0] += u64::from(fraction == on);
-            counts[1] += u64::from(fraction == past);
-            sum += u64::from(fraction);
-        }
-        for (count, limit) in self.sums.iter_mut().zip(SUMS) {
-            *count += u64::from(sum == limit);
-        }
-    }
-
-    /// What occurs least, and how often.
-    fn least(&self) -> (String, u64) {
-        let sums = SUMS
-            .iter()
-            .zip(self.sums)
-            .map(|(sum, count)| (format!("sum {sum}"), count));
-        let lines = (1..=55).flat_map(|line| {
-            let [on, past] = self.lines[line];
-            [
-                (format!("line {line} on its limit"), on),
-                (format!("line {line} one past its limit"), past),
-            ]
-        });
-        sums.chain(lines)
-            .min_by_key(|(_, count)| *count)
-            .unwrap_or_default()
     }
 }
 
@@ -332,9 +282,7 @@ fn compare_record(
     same(&expected, &proved, || shown("read"))?;
     counts.read[place(&expected)] += 1;
 
-    if matches!(expected, Ok(_) | Err(9..)) {
-        counts.limits.book(record);
-    }
+    counts.limits.book_record(record, place(&expected));
     if let Ok(composition) = expected {
         counts.book(&composition);
         write_back(record, &composition, counts)?;
@@ -404,6 +352,7 @@ fn compare_call(call: &WriterCall, counts: &mut Counts) -> Result<Vec<u8>, Strin
     let untouched = Bytes(&call.buffer[filled..]);
     same(&untouched, &Bytes(&bytes[filled..]), shown)?;
     counts.write[place(&expected)] += 1;
+    counts.limits.book_call(call, place(&expected));
     Ok(bytes)
 }
 

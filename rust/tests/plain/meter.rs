@@ -9,11 +9,31 @@ const GREATEST_TOTAL: u64 = 999_999_999_999;
 /// mJ in a MJ.
 const MEGAJOULE: u64 = 1_000_000_000;
 
-/// The pair and the properties of a stream's last accepted analysis.
+/// The pair and the properties of a stream's last accepted analysis. No
+/// property passes 2^32.
 #[derive(Debug, Clone, Copy)]
 struct InForce {
     pair: (u8, u8),
-    properties: Six,
+    z: u32,
+    hs: u32,
+    hi: u32,
+    rho: u32,
+    d: u32,
+    w: u32,
+}
+
+impl InForce {
+    fn new(pair: (u8, u8), six: Six) -> Self {
+        Self {
+            pair,
+            z: six.z as u32,
+            hs: six.hs as u32,
+            hi: six.hi as u32,
+            rho: six.rho as u32,
+            d: six.d as u32,
+            w: six.w as u32,
+        }
+    }
 }
 
 #[derive(Debug, Clone, Copy)]
@@ -61,7 +81,7 @@ impl Meter {
         if stream.in_force.is_some_and(|earlier| earlier.pair != pair) {
             return Err(14);
         }
-        stream.in_force = Some(InForce { pair, properties });
+        stream.in_force = Some(InForce::new(pair, properties));
         Ok(())
     }
 
@@ -76,7 +96,7 @@ impl Meter {
         if total > GREATEST_TOTAL {
             return Err(17);
         }
-        let energy = stream.rest + volume * in_force.properties.hs;
+        let energy = stream.rest + volume * u64::from(in_force.hs);
         stream.volume = total;
         stream.energy += energy / MEGAJOULE;
         stream.rest = energy % MEGAJOULE;

@@ -2,8 +2,10 @@
 //! and one past each limit, damaged ones, and ones that break several
 //! conditions at once.
 
+mod limits;
 mod random;
 
+pub use limits::Limits;
 pub use random::Random;
 
 const LINES: u8 = 55;
