@@ -18,9 +18,8 @@ impl CompressionFactor {
         requires { ⌜ value ≤ compressionBound ⌝ }
         ensures { λ r. ⌜ r .value ≡ value ⌝ }
     {
-        Self {
-            value: value as u32,
-        }
+        let value = value as u32;
+        Self { value }
     }
 
     pub fn value(self) -> u64
@@ -44,9 +43,8 @@ impl CalorificValue {
         requires { ⌜ value ≤ calorificBound ⌝ }
         ensures { λ r. ⌜ r .value ≡ value ⌝ }
     {
-        Self {
-            value: value as u32,
-        }
+        let value = value as u32;
+        Self { value }
     }
 
     pub fn value(self) -> u64
@@ -70,9 +68,8 @@ impl Density {
         requires { ⌜ value ≤ densityBound ⌝ }
         ensures { λ r. ⌜ r .value ≡ value ⌝ }
     {
-        Self {
-            value: value as u32,
-        }
+        let value = value as u32;
+        Self { value }
     }
 
     pub fn value(self) -> u64
@@ -96,9 +93,8 @@ impl RelativeDensity {
         requires { ⌜ value ≤ relativeBound ⌝ }
         ensures { λ r. ⌜ r .value ≡ value ⌝ }
     {
-        Self {
-            value: value as u32,
-        }
+        let value = value as u32;
+        Self { value }
     }
 
     pub fn value(self) -> u64
@@ -122,9 +118,8 @@ impl WobbeIndex {
         requires { ⌜ value ≤ wobbeBound ⌝ }
         ensures { λ r. ⌜ r .value ≡ value ⌝ }
     {
-        Self {
-            value: value as u32,
-        }
+        let value = value as u32;
+        Self { value }
     }
 
     pub fn value(self) -> u64
