@@ -20,7 +20,7 @@ const REPETITIONS: usize = 101;
 /// The time each side runs in one repetition.
 const SLICE: Duration = Duration::from_millis(2);
 
-/// What the ratios of two measurements of the same code differ by.
+/// How far above 1 a ratio has to be for its case to be named as slower.
 const NOISE: f64 = 0.03;
 
 const WARM_UP: Duration = Duration::from_millis(200);

@@ -9,8 +9,8 @@ const GREATEST_TOTAL: u64 = 999_999_999_999;
 /// mJ in a MJ.
 const MEGAJOULE: u64 = 1_000_000_000;
 
-/// The pair and the properties of a stream's last accepted analysis. No
-/// property passes 2^32.
+/// The pair and the properties of a stream's last accepted analysis, none of
+/// which passes 10^9.
 #[derive(Debug, Clone, Copy)]
 struct InForce {
     pair: (u8, u8),

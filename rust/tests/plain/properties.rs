@@ -7,6 +7,10 @@
 //! M × 10,132,500, below 1.46 × 10^19; 2^64 is above 1.84 × 10^19. At least
 //! half is methane and every summation factor is below 7,600, so S9 is below
 //! 4.1 × 10^8, Z above 8 × 10^8, d below 7 × 10^8 and d × 10^10 below 7 × 10^18.
+//!
+//! No property reaches 10^9 but Z, which may be it: D is above 2.2 × 10^10, so Hs
+//! and Hi are below 4.1 × 10^8 and rho below 8.4 × 10^8; M is above 8 × 10^10, so
+//! the root is above 5 × 10^8 and W below 8.2 × 10^8.
 
 use super::conditions::Conditions;
 use super::record::check;
