@@ -119,6 +119,13 @@ limitsOrder nine ten eleven twelve = (9, nine) ∷ (10, ten) ∷ (11, eleven) �
 abbrev pub listsOrder : Bool → Bool → Bool → Order
 listsOrder nineteen four five = (19, nineteen) ∷ (4, four) ∷ (5, five) ∷ []
 
+-- 7, and 8 to 12, of line numbers and fractions
+abbrev pub linesOrder : List ℕ → Order
+linesOrder ls = (7, lineBreaks 0 ls) ∷ []
+
+abbrev pub fractionsOrder : List ℕ → List ℕ → Order
+fractionsOrder ls xs = (8, fractionZero xs) ∷ limitsOrder (sumOutside xs) (methaneLow ls xs) (anyAbove ls xs) (waterHigh ls xs)
+
 -- the order of a record, in two parts: 1 to 6, and 7 to 12, which the writer shares
 abbrev pub headOrder : List ℕ → Order
 headOrder bs =
@@ -126,10 +133,7 @@ headOrder bs =
     ∷ fieldsOrder (markDiffers bs) (versionDiffers bs) (pairRefused (combustionIn bs) (meteringIn bs)) (countOutside (countIn bs)) (lengthDiffers bs)
 
 abbrev pub contentOrder : List ℕ → List ℕ → Order
-contentOrder ls xs =
-    (7, lineBreaks 0 ls)
-    ∷ (8, fractionZero xs)
-    ∷ limitsOrder (sumOutside xs) (methaneLow ls xs) (anyAbove ls xs) (waterHigh ls xs)
+contentOrder ls xs = linesOrder ls ++ fractionsOrder ls xs
 
 abbrev pub recordOrder : List ℕ → Order
 recordOrder bs = headOrder bs ++ contentOrder (linesIn bs) (fractionsIn bs)

@@ -1,18 +1,19 @@
-// The entry scan: 7 to 12 in one pass over the entries of a record, or over the two lists of the writer. 0 stands for none.
+// The entry scan: 7 in a search over the line numbers, then 8 to 12 in one over the fractions, of a record or of the writer's two lists.
+// The first entry that breaks 7 ends the first search, and the first fraction of 0 the second. 0 stands for none.
 ghost use mathlib.Core.Path.{_≡_};
 ghost use mathlib.Core.Bool.{false, _||_, cond};
 ghost use Prim.Native.Nat.{_+_, _^_, _≤_, _<_};
 ghost use lib.Dec.{eqb, leb, ltb};
 ghost use lib.ListN.{length};
 ghost use Rattle.records.specs.Order.{firstOf};
-ghost use Rattle.records.specs.Conditions.{methane, water, limitOf, aboveLimit, limitsOrder, headOrder, contentOrder, recordOrder};
+ghost use Rattle.records.specs.Format.{linesIn, fractionsIn};
+ghost use Rattle.records.specs.Conditions.{methane, water, limitOf, lineBreaks, aboveLimit, limitsOrder, headOrder, linesOrder, fractionsOrder, contentOrder, recordOrder};
 use super::conditions;
 use super::format;
 
-// What 8 to 12 need of the entries so far: whether a fraction is 0, the sum of the fractions, the fractions of methane and of water,
-// 0 where absent, and whether another line is above its limit.
+// What 9 to 12 need of the entries so far: the sum of the fractions, the fractions of methane and of water, 0 where absent, and
+// whether another line is above its limit.
 struct Scan {
-    zero: bool,
     sum: u64,
     methane: u32,
     above: bool,
@@ -45,10 +46,9 @@ fn fraction_or(other: u32, wanted: u8, line: u8, fraction: u32) -> u32
 
 // Before the first entry.
 fn no_entries() -> Scan
-    ensures { λ r. ⌜ r ≡ record { zero = false; sum = 0; methane = 0; above = false; water = 0 } ⌝ }
+    ensures { λ r. ⌜ r ≡ record { sum = 0; methane = 0; above = false; water = 0 } ⌝ }
 {
     Scan {
-        zero: false,
         sum: 0,
         methane: 0,
         above: false,
@@ -59,14 +59,12 @@ fn no_entries() -> Scan
 // With one more entry.
 fn with_entry(scan: Scan, line: u8, fraction: u32) -> Scan
     requires { ⌜ scan .sum < 2 ^ 63 ⌝ }
-    ensures zero { λ r. ⌜ r .zero ≡ (scan .zero || eqb fraction 0) ⌝ }
     ensures sum { λ r. ⌜ r .sum ≡ scan .sum + fraction ⌝ }
     ensures methane { λ r. ⌜ r .methane ≡ cond (eqb line methane) fraction (scan .methane) ⌝ }
     ensures above { λ r. ⌜ r .above ≡ (scan .above || aboveLimit line fraction) ⌝ }
     ensures water { λ r. ⌜ r .water ≡ cond (eqb line water) fraction (scan .water) ⌝ }
 {
     Scan {
-        zero: scan.zero | (fraction == 0),
         sum: scan.sum + widened(fraction),
         methane: fraction_or(scan.methane, conditions::METHANE, line, fraction),
         above: scan.above | conditions::above_limit(line, fraction),
@@ -74,61 +72,121 @@ fn with_entry(scan: Scan, line: u8, fraction: u32) -> Scan
     }
 }
 
-// 8 to 12, after the last entry.
+// 9 to 12, after the last entry.
 fn scan_number(scan: Scan) -> u8
-    ensures { λ r. ⌜ r ≡ cond (scan .zero) 8 (firstOf (limitsOrder (ltb (scan .sum) 999900 || ltb 1000100 (scan .sum)) (ltb (scan .methane) 500000) (scan .above) (ltb (limitOf water) (scan .water)))) ⌝ }
+    ensures { λ r. ⌜ r ≡ firstOf (limitsOrder (ltb (scan .sum) 999900 || ltb 1000100 (scan .sum)) (ltb (scan .methane) 500000) (scan .above) (ltb (limitOf water) (scan .water))) ⌝ }
 {
-    if scan.zero {
-        return 8;
-    }
     let sum_wrong = (scan.sum < 999900) | (1000100 < scan.sum);
     let methane_low = scan.methane < 500000;
     let water_high = conditions::limit_of(conditions::WATER) < scan.water;
     conditions::limits_number(sum_wrong, methane_low, scan.above, water_high)
 }
 
-// 7 to 12 of a record where none of 1 to 6 holds. The first line number that breaks 7 ends the scan.
-pub fn entries_refusal(bytes: &[u8]) -> u8
+// 7 of a record where none of 1 to 6 holds.
+fn lines_refusal(bytes: &[u8]) -> u8
     requires { ⌜ firstOf (headOrder (now bytes)) ≡ 0 ⌝ }
-    ensures { λ r. ⌜ r ≡ firstOf (recordOrder (now (bytes .entry))) ⌝ }
+    ensures { λ r. ⌜ r ≡ firstOf (linesOrder (linesIn (now (bytes .entry)))) ⌝ }
 {
     let n = bytes[7] as usize;
-    let mut scan = no_entries();
     let mut before: u8 = 0;
     let mut k = 0;
-    'scan: loop {
+    'lines: loop {
         if k >= n {
-            break 'scan scan_number(scan);
+            break 'lines 0;
         }
         let line = format::line_in(bytes, k);
         if line_breaks(before, line) {
-            break 'scan 7;
+            break 'lines 7;
         }
-        scan = with_entry(scan, line, format::fraction_in(bytes, k));
         before = line;
         k += 1;
     }
 }
 
-// The same of the writer's two lists.
+// 8 to 12 of a record where none of 1 to 7 holds.
+fn fractions_refusal(bytes: &[u8]) -> u8
+    requires { ⌜ firstOf (headOrder (now bytes)) ≡ 0 ⌝ }
+    requires { ⌜ lineBreaks 0 (linesIn (now bytes)) ≡ false ⌝ }
+    ensures { λ r. ⌜ r ≡ firstOf (fractionsOrder (linesIn (now (bytes .entry))) (fractionsIn (now (bytes .entry)))) ⌝ }
+{
+    let n = bytes[7] as usize;
+    let mut scan = no_entries();
+    let mut k = 0;
+    'fractions: loop {
+        if k >= n {
+            break 'fractions scan_number(scan);
+        }
+        let fraction = format::fraction_in(bytes, k);
+        if fraction == 0 {
+            break 'fractions 8;
+        }
+        scan = with_entry(scan, format::line_in(bytes, k), fraction);
+        k += 1;
+    }
+}
+
+// 7 to 12 of a record where none of 1 to 6 holds.
+pub fn entries_refusal(bytes: &[u8]) -> u8
+    requires { ⌜ firstOf (headOrder (now bytes)) ≡ 0 ⌝ }
+    ensures { λ r. ⌜ r ≡ firstOf (recordOrder (now (bytes .entry))) ⌝ }
+{
+    let seven = lines_refusal(bytes);
+    if seven != 0 {
+        return seven;
+    }
+    fractions_refusal(bytes)
+}
+
+// 7 of the writer's line numbers.
+fn listed_lines_refusal(lines: &[u8]) -> u8
+    ensures { λ r. ⌜ r ≡ firstOf (linesOrder (now (lines .entry))) ⌝ }
+{
+    let mut before: u8 = 0;
+    let mut k = 0;
+    'lines: loop {
+        if k >= lines.len() {
+            break 'lines 0;
+        }
+        let line = lines[k];
+        if line_breaks(before, line) {
+            break 'lines 7;
+        }
+        before = line;
+        k += 1;
+    }
+}
+
+// 8 to 12 of the writer's two lists, where 7 does not hold.
+fn listed_fractions_refusal(lines: &[u8], fractions: &[u32]) -> u8
+    requires { ⌜ length (now lines) ≡ length (now fractions) ⌝ }
+    requires { ⌜ length (now fractions) ≤ 55 ⌝ }
+    requires { ⌜ lineBreaks 0 (now lines) ≡ false ⌝ }
+    ensures { λ r. ⌜ r ≡ firstOf (fractionsOrder (now (lines .entry)) (now (fractions .entry))) ⌝ }
+{
+    let mut scan = no_entries();
+    let mut k = 0;
+    'fractions: loop {
+        if k >= lines.len() {
+            break 'fractions scan_number(scan);
+        }
+        let fraction = fractions[k];
+        if fraction == 0 {
+            break 'fractions 8;
+        }
+        scan = with_entry(scan, lines[k], fraction);
+        k += 1;
+    }
+}
+
+// 7 to 12 of the writer's two lists.
 pub fn content_refusal(lines: &[u8], fractions: &[u32]) -> u8
     requires { ⌜ length (now lines) ≡ length (now fractions) ⌝ }
     requires { ⌜ length (now fractions) ≤ 55 ⌝ }
     ensures { λ r. ⌜ r ≡ firstOf (contentOrder (now (lines .entry)) (now (fractions .entry))) ⌝ }
 {
-    let mut scan = no_entries();
-    let mut before: u8 = 0;
-    let mut k = 0;
-    'scan: loop {
-        if k >= lines.len() {
-            break 'scan scan_number(scan);
-        }
-        let line = lines[k];
-        if line_breaks(before, line) {
-            break 'scan 7;
-        }
-        scan = with_entry(scan, line, fractions[k]);
-        before = line;
-        k += 1;
+    let seven = listed_lines_refusal(lines);
+    if seven != 0 {
+        return seven;
     }
+    listed_fractions_refusal(lines, fractions)
 }

@@ -1,5 +1,4 @@
 -- Each field with the entry.
-use mathlib.Core.Path.{refl}
 use borrow.Author.Needs.{needs}
 use Rattle.records.proofs.scan.with_entry.Statement.{statement}
 use Rattle.records.proofs.scan.with_entry.Tie as tie
@@ -7,8 +6,8 @@ use Rattle.records.proofs.scan.with_entry.Tie as tie
 widened-requires : tie.Need-widened-requires
 widened-requires c κs = search needs
 
-add-t7 : tie.Need-add-t7
-add-t7 c = search needs
+add-t5 : tie.Need-add-t5
+add-t5 c = search needs
 
 fraction-or-requires : tie.Need-fraction-or-requires
 fraction-or-requires c κs = search needs
@@ -23,14 +22,14 @@ returns : tie.Need-returns
 returns c =
     let a = c .before .before in
     let m = a .before in
-    (refl, (rw (m .before .before .widened .ensures .0), (m .fraction-or .ensures, (rw (a .above-limit .ensures), c .fraction-or2 .ensures))))
+    (rw (m .before .before .widened .ensures .0), (m .fraction-or .ensures, (rw (a .above-limit .ensures), c .fraction-or2 .ensures)))
 
 pub with-entry-spec : {M : Type 1} → statement M
 with-entry-spec =
     tie.close
     (tie.spec
     widened-requires
-    add-t7
+    add-t5
     fraction-or-requires
     above-limit-requires
     fraction-or-requires-2
