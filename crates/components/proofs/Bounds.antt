@@ -45,8 +45,8 @@ mass-is = refl
 size-is : (c : ℕ) → Unsigned c → (ls xs : List ℕ) → natAbs (sumOf c ls xs) ≡ sizes c ls xs
 size-is c u ls xs = ap natAbs (sum-is-sizes c u ls xs)
 
-pub bounds : MethaneBounds
-bounds ls xs g methane =
+pub methane-bounds : MethaneBounds
+methane-bounds ls xs g methane =
     record {
       heat-low = λ c h. omega (arith, size-is c (inr h) ls xs, share-low c 1 802600 (heat-least c h) ls xs);
       heat-high = λ c h.

@@ -8,7 +8,7 @@ use lib.ListN.{getD}
 use Rattle.components.specs.Composition.{Composition, total, fractionFor}
 use Rattle.components.specs.Bounds.{Bounds}
 use Rattle.components.proofs.Every.{at}
-use Rattle.components.proofs.Bounds.{bounds}
+use Rattle.components.proofs.Bounds.{methane-bounds}
 
 abbrev pub lines : List ℕ
 lines = 1 ∷ 2 ∷ 3 ∷ 4 ∷ 5 ∷ 6 ∷ 52 ∷ 54 ∷ []
@@ -27,4 +27,4 @@ composition =
 
 pub sums-bounded : Bounds lines fractions
 unfolding fractionFor
-sums-bounded = bounds lines fractions composition (omega arith)
+sums-bounded = methane-bounds lines fractions composition (omega arith)

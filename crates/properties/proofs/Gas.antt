@@ -3,17 +3,19 @@
 use mathlib.Core.Path.{_≡_, refl, ap}
 use mathlib.Core.Logic.{inl, inr}
 use Prim.Native.Nat.{ℕ, _*_, _^_, _≤_}
+use native.Mathlib.Nat.{mul-le-mul}
 use native.Mathlib.Omega.{arith}
 use lib.IntN.{pos, natAbs}
 use Rattle.rounding.specs.Fraction.{Within, _over_, half, whole}
-use Rattle.rounding.proofs.NearLaws.{nearZ-half}
+use Rattle.rounding.specs.Root.{Root}
+use Rattle.rounding.proofs.NearLaws.{near-z-half}
 use Rattle.rounding.proofs.FractionLaws.{within-wider, within-one}
 use Rattle.components.specs.Table.{superior, inferior, Heat, Unsigned}
 use Rattle.components.specs.Composition.{sumOf, overLines}
 use Rattle.components.specs.Bounds.{Bounds}
 use Rattle.components.proofs.SumLaws.{sum-is-sizes}
 use Rattle.components.proofs.AllLines.{sums-run-over-all-lines}
-use Rattle.components.proofs.Bounds.{bounds}
+use Rattle.components.proofs.Bounds.{methane-bounds}
 use Rattle.records.specs.Order.{mapped}
 use Rattle.records.specs.Format.{Contents}
 use Rattle.records.specs.Accepted.{Acceptable}
@@ -22,10 +24,10 @@ use Rattle.properties.specs.Chain.{combustionPlace, T, D, HmSuperior, Hm
 use Rattle.properties.specs.Unrounded as unrounded
 use Rattle.properties.specs.Quantities.{Bounded}
 use Rattle.properties.specs.Distances.{Indexed, Distances}
-use Rattle.properties.specs.Accepted.{Amounts, EveryAcceptedRecord}
+use Rattle.properties.specs.Accepted.{Amounts, Squares, EveryAcceptedRecord}
 use Rattle.properties.proofs.Approximations.{z-low, z-within, real-within}
 use Rattle.properties.proofs.Index.{indexed}
-use Rattle.properties.proofs.StepBounds.{compression-high, temperature-low, temperature-high, air-low, air-high, metering-place, combustion-place, calorific-near, ideal-calorific-high, ideal-calorific-low, density-near, ideal-density-high, relative-near, ideal-relative-high, ideal-relative-low, real-high, real-low, root-of, root-low, wobbe-near, wobbe-high, wobbe-low}
+use Rattle.properties.proofs.StepBounds.{tenth-high, compression-high, temperature-low, temperature-high, air-low, air-high, metering-place, combustion-place, calorific-near, ideal-calorific-high, ideal-calorific-low, density-near, ideal-density-high, relative-near, ideal-relative-high, ideal-relative-low, real-high, real-low, root-of, root-low, wobbe-near, wobbe-high, wobbe-low}
 
 pub heats : (c : ℕ) → Heat (superior (combustionPlace c)) × Heat (inferior (combustionPlace c))
 heats c = let h = combustion-place c in ((omega arith, omega arith), (omega arith, omega arith))
@@ -50,7 +52,7 @@ module _ (k : Contents) (a : Acceptable k) where
       record { HmSuperior = not-negative _ (inr (h .0)); HmInferior = not-negative _ (inr (h .1)); M = not-negative _ (inl refl) }
 
   in-bounds : Bounds (k .lines) (k .fractions)
-  in-bounds = bounds (k .lines) (k .fractions) (a .composition) (a .share)
+  in-bounds = methane-bounds (k .lines) (k .fractions) (a .composition) (a .share)
 
   pub superior-low : 100000000000 ≤ HmSuperior k
   unfolding HmSuperior
@@ -94,9 +96,15 @@ module _ (k : Contents) (a : Acceptable k) where
   A-high = air-high (k .metering)
 
   -- S9 and Z
+  squares : Squares k
+  unfolding S9
+  squares =
+      let h = tenth-high (S k) summation-high in
+      record { rounded = omega (arith, mul-le-mul h h); unrounded = omega (arith, mul-le-mul summation-high summation-high) }
+
   s9-within : Within (6 over 10) (natAbs (S9 k)) (unrounded.tenth (unrounded.S k))
   unfolding S9
-  s9-within = within-wider half (6 over 10) _ _ (omega arith) (omega arith) (nearZ-half (S k) 10 (omega arith))
+  s9-within = within-wider half (6 over 10) _ _ (omega arith) (omega arith) (near-z-half (S k) 10 (omega arith))
 
   pub Z-low : 724000000 ≤ Z k
   unfolding Z
@@ -196,6 +204,18 @@ module _ (k : Contents) (a : Acceptable k) where
   pub distances : Distances k (sixOf k)
   distances = record { Z = Z-within; Hs = Hs-within; Hi = Hi-within; rho = rho-within; d = d-within; W = W-within }
 
+  greatest : Root (r k) (d k * 10 ^ 10)
+  unfolding r
+  greatest = root-of (d k) d-low d-high
+
 pub every-accepted-record : EveryAcceptedRecord
 every-accepted-record bs k e =
-    let a = accepted-is-acceptable bs k e in record { answer = ap (mapped sixOf) e; amounts = amounts k a; bounded = bounded k a; within = distances k a }
+    let a = accepted-is-acceptable bs k e in
+    record {
+      answer = ap (mapped sixOf) e;
+      amounts = amounts k a;
+      squares = squares k a;
+      root = greatest k a;
+      bounded = bounded k a;
+      within = distances k a;
+    }

@@ -9,7 +9,7 @@ use lib.IntN.{ℤ, natAbs}
 use Rattle.rounding.specs.Near.{near}
 use Rattle.rounding.specs.Root.{Root}
 use Rattle.rounding.specs.Fraction.{Within, _over_, half}
-use Rattle.rounding.proofs.NearLaws.{near-half, nearZ-half, at-most, at-least}
+use Rattle.rounding.proofs.NearLaws.{near-half, near-z-half, at-most, at-least}
 use Rattle.rounding.proofs.RootLaws.{root-is, root-greatest, below-of-squares}
 use Rattle.properties.specs.Chain.{forMetering, temperature, meteringPlace, combustionPlace, airFactor, tenth, idealCalorific, idealDensity, idealRelative, real, rootOf, wobbe}
 
@@ -75,7 +75,7 @@ module _ (M : ℕ) where
 
 -- S9 and Z
 pub tenth-high : (S : ℤ) → natAbs S ≤ 5250000000 → natAbs (tenth S) ≤ 525000000
-tenth-high S h = at-most (nearZ-half S 10 (omega arith)) (omega arith)
+tenth-high S h = at-most (near-z-half S 10 (omega arith)) (omega arith)
 
 pub compression-high : (square : ℕ) → near (10 ^ 18 - square) (10 ^ 9) ≤ 10 ^ 9
 compression-high square = at-most (near-half (10 ^ 18 - square) (10 ^ 9) (omega arith)) (omega arith)

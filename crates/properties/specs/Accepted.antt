@@ -1,13 +1,14 @@
 -- What is shown of every accepted record.
 use mathlib.Core.Path.{_≡_}
 use mathlib.Core.List.{List}
-use Prim.Native.Nat.{ℕ}
-use lib.IntN.{pos}
+use Prim.Native.Nat.{ℕ, _*_, _^_, _≤_}
+use lib.IntN.{pos, natAbs}
+use Rattle.rounding.specs.Root.{Root}
 use Rattle.components.specs.Table.{molarMass, superior, inferior}
 use Rattle.records.specs.Order.{accepted}
 use Rattle.records.specs.Format.{Contents}
 use Rattle.records.specs.Calls.{readingOf}
-use Rattle.properties.specs.Chain.{combustionPlace, sum, HmSuperior, HmInferior, M, sixOf, propertiesOf}
+use Rattle.properties.specs.Chain.{combustionPlace, sum, HmSuperior, HmInferior, M, S, S9, d, r, sixOf, propertiesOf}
 use Rattle.properties.specs.Quantities.{Bounded}
 use Rattle.properties.specs.Distances.{Distances}
 
@@ -17,11 +18,19 @@ pub record Amounts (k : Contents) : Type 0 where
   pub HmInferior : pos (HmInferior k) ≡ sum k (inferior (combustionPlace (k .combustion)))
   pub M : pos (M k) ≡ sum k molarMass
 
--- what is shown of a record that reads as k: the call answers its properties, from its sums; none passes its ceiling, and each is
--- within its distance
+-- Whole numbers stop at 0 where more is taken away than there is. In step 2 nothing is cut off so: S9² is at most the 10^18 that it is
+-- taken from, and S² at most 100 × 10^18, as the unrounded formula has it for (S/10)².
+pub record Squares (k : Contents) : Type 0 where
+  pub rounded : natAbs (S9 k) * natAbs (S9 k) ≤ 10 ^ 18
+  pub unrounded : natAbs (S k) * natAbs (S k) ≤ 100 * 10 ^ 18
+
+-- what is shown of a record that reads as k: the call answers its properties, from its sums; steps 2 and 6 mean what they say, with r
+-- the greatest whole number with r² ≤ d × 10^10; none passes its ceiling, and each is within its distance
 pub record Shown (bs : List ℕ) (k : Contents) : Type 0 where
   pub answer : propertiesOf bs ≡ accepted (sixOf k)
   pub amounts : Amounts k
+  pub squares : Squares k
+  pub root : Root (r k) (d k * 10 ^ 10)
   pub bounded : Bounded (sixOf k)
   pub within : Distances k (sixOf k)
 

@@ -41,9 +41,9 @@ at-least {r} {n} {q} {b} w l =
     omega arith
 
 -- on the signed scale: where n is not below 0 it is that number; where n is below 0 it is not above 0
-pub nearZ-pos : NearZPos
+pub near-z-pos : NearZPos
 unfolding nearZ near floor
-nearZ-pos n q = refl
+near-z-pos n q = refl
 
 -- the size that it gives of a number below 0
 size : ℕ → ℕ → ℕ
@@ -56,10 +56,10 @@ nearZ-size n q h p =
     let high = lt-div-mul-add {a = 2 * n + q - 1} {b = 2 * q} (omega arith) in
     (nearZ-is n q ((2 * n + q - 1) / (2 * q)) h (omega arith) (omega arith), record { proper = (h, omega arith); below = omega arith; above = omega arith })
 
-pub nearZ-neg : NearZNeg
-nearZ-neg n q h = let e = nearZ-size (suc n) q h (omega arith) .0 in rw (e, natAbs-neg)
+pub near-z-neg : NearZNeg
+near-z-neg n q h = let e = nearZ-size (suc n) q h (omega arith) .0 in rw (e, natAbs-neg)
 
 -- its size is within a half of the size of n/q
-pub nearZ-half : NearZHalf
-nearZ-half (pos n) q h = rw (nearZ-pos n q) (near-half n q h)
-nearZ-half (negsuc n) q h = let s = nearZ-size (suc n) q h (omega arith) in rw (s .0, natAbs-neg) (s .1)
+pub near-z-half : NearZHalf
+near-z-half (pos n) q h = rw (near-z-pos n q) (near-half n q h)
+near-z-half (negsuc n) q h = let s = nearZ-size (suc n) q h (omega arith) in rw (s .0, natAbs-neg) (s .1)

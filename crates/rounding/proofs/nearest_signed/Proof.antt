@@ -7,14 +7,14 @@ use borrow.Author.Needs.{needs}
 use lib.IntN.{ℤ, pos, negℤ, natAbs}
 use mir.Facts.{toZ-ofZ}
 use Rattle.rounding.specs.Near.{nearZ}
-use Rattle.rounding.proofs.NearLaws.{nearZ-half, nearZ-pos, at-most}
+use Rattle.rounding.proofs.NearLaws.{near-z-half, near-z-pos, at-most}
 use Rattle.rounding.proofs.SignedWords.{natAbs-neg, fits64, toZ-pos, cast-pos, minus-is, minus-fits, is-below, not-below, opposite-fits, opposite-is, value-is}
 use Rattle.rounding.proofs.nearest_signed.Statement.{statement}
 use Rattle.rounding.proofs.nearest_signed.Tie as tie
 
 -- the answer is no larger than n
 size : (n : ℤ) (q : ℕ) → (0 < q) × (natAbs n < 2 ^ 63) → natAbs (nearZ n q) < 2 ^ 63
-size n q (h, small) = omega (arith, at-most {b = natAbs n} (nearZ-half n q h) (le-mul-of-pos-right (natAbs n) h))
+size n q (h, small) = omega (arith, at-most {b = natAbs n} (near-z-half n q h) (le-mul-of-pos-right (natAbs n) h))
 
 sub-nearest-below-zero : tie.Need-sub-nearest-below-zero
 sub-nearest-below-zero c = opposite-fits _ (c .before .fits .n) (c .before .pre .1) (c .if1 .taken)
@@ -53,7 +53,7 @@ above c =
     let s = c .before .before in
     let l = c .before .if1 .left in
     ap pos (c .nearest .ensures)
-    ∙ sym (nearZ-pos _ (s .args .q))
+    ∙ sym (near-z-pos _ (s .args .q))
     ∙ ap (λ (z : ℤ). nearZ (pos (natAbs z)) (s .args .q)) (value-is _ (s .fits .n) (s .pre .1) l)
     ∙ ap (λ (z : ℤ). nearZ z (s .args .q)) (sym (not-below (s .args .n) (s .fits .n) (s .pre .1) l))
 
