@@ -5,7 +5,7 @@ use Prim.Native.Nat.{ℕ, zero, suc, _+_, _≤_, _<_}
 use native.Mathlib.Nat.{mul-le-mul-left}
 use native.Mathlib.Omega.{arith}
 use native.Mathlib.Decide.{ℕ-discrete}
-use borrow.Author.Tests.{le-ltb}
+use borrow.Author.Tests.{le-ltb, ltb-false, eqb-false}
 use lib.ListN.{length, length-set, getD-replicate}
 use lib.Seq.{getD-set-same, getD-set-other}
 use Rattle.records.specs.declared.Verdict.{Verdict}
@@ -13,6 +13,7 @@ use Rattle.records.specs.Order.{firstOf, otherwise, decided}
 use Rattle.records.specs.Format.{contentsIn}
 use Rattle.records.specs.Conditions.{recordOrder}
 use Rattle.records.specs.Answers.{Gives}
+use Rattle.records.proofs.OrderLaws.{unmet, decided-accepted}
 use Rattle.records.proofs.Accepted.{acceptable}
 use Rattle.properties.specs.Chain as chain
 use Rattle.properties.specs.Quantities.{calorificBound}
@@ -20,11 +21,12 @@ use Rattle.properties.proofs.Gas.{bounded}
 use Rattle.meter.specs.declared.Stream.{Stream}
 use Rattle.meter.specs.declared.Meter.{Meter}
 use Rattle.meter.specs.State.{SoundStream, Sound, freshStream, streamAt, withStream, perMJ}
-use Rattle.meter.specs.Conditions.{analysisOrder, meteringOrder}
-use Rattle.meter.specs.Calls.{analysed, metered}
-use Rattle.meter.specs.Kept.{FreshIsSound, AnalysisKeeps, MeteringKeeps, AnalysisLeavesOthers, MeteringLeavesOthers, ZeroIsAccepted}
+use Rattle.meter.specs.Conditions.{analysisOrder, meteringOrder, meanOrder}
+use Rattle.meter.specs.Calls.{analysed, metered, meanIn}
+use Rattle.meter.specs.Kept.{FreshIsSound, AnalysisKeeps, MeteringKeeps, AnalysisLeavesOthers, MeteringLeavesOthers, ZeroIsAccepted, NoMeanAboveCeiling}
 use Rattle.meter.proofs.Orders.{clear-analysis, clear-metering}
 use Rattle.meter.proofs.Registers.{sound-booked}
+use Rattle.meter.proofs.Means.{mean-bounded}
 
 -- another stream than the one that a call replaces
 other-stays : (n : ℕ) (m : Meter) (k : ℕ) (s : Stream) (j : ℕ) → (j ≡ k → ⊥) → streamAt (otherwise m (decided n (withStream m k s))) j ≡ streamAt m j
@@ -92,3 +94,13 @@ metering-leaves-others m k w v after = others-stay (firstOf (meteringOrder k w (
 pub zero-is-accepted : ZeroIsAccepted
 zero-is-accepted m k h b some =
     rw (le-ltb 15 k (omega arith), some, le-ltb 999999999999 (streamAt m k .volume + 0) (omega (arith, h .each k b .volume)))
+
+pub no-mean-above-ceiling : NoMeanAboveCeiling
+no-mean-above-ceiling m k h sound e =
+    let s = streamAt m k in
+    let a = decided-accepted (firstOf (meanOrder k s)) (meanIn (s .energy) (s .volume)) h e in
+    let o = unmet (meanOrder k s) tt (a .0) in
+    let b = ltb-false 15 k (o 13) in
+    let z = eqb-false (s .volume) 0 (o 18) in
+    let l = sound .each k (omega arith) in
+    subst (λ (x : ℕ). x ≤ calorificBound) (a .1) (mean-bounded (s .energy) (s .volume) (l .energy) (l .volume) (omega arith))
