@@ -1,7 +1,7 @@
 -- Demand 3, for every list of calls from a fresh meter.
 use mathlib.Core.Path.{_≡_, refl, sym, ap, _∙_}
 use mathlib.Core.List.{List}
-use Prim.Native.Nat.{ℕ, zero, suc, _+_, _*_, _<_}
+use Prim.Native.Nat.{ℕ, zero, suc, _+_, _*_, _≤_, _<_}
 use native.Mathlib.Nat.{mul-le-mul-right, mul-pos}
 use native.Mathlib.Omega.{arith}
 use borrow.Author.Tests.{le-ltb, ne-eqb, eq-eqb}
@@ -13,16 +13,17 @@ use Rattle.records.specs.Order.{firstOf, refused, accepted, decided}
 use Rattle.records.specs.Format.{combustionIn, meteringIn, contentsIn}
 use Rattle.records.specs.Calls.{readingOf}
 use Rattle.records.proofs.OrderLaws.{decided-accepted}
+use Rattle.properties.specs.Quantities.{calorificBound}
 use Rattle.properties.proofs.Gas.{every-accepted-record}
 use Rattle.meter.specs.declared.Meter.{Meter}
-use Rattle.meter.specs.State.{freshStream, freshMeter}
+use Rattle.meter.specs.State.{Sound, freshStream, freshMeter, streamAt}
 use Rattle.meter.proofs.Orders.{record-clear}
-use Rattle.meter.proofs.Kept.{fresh-is-sound}
+use Rattle.meter.proofs.Kept.{fresh-is-sound, no-mean-above-ceiling}
 use Rattle.tally.specs.Tally.{analysis, Call, done, Answer, StreamTally, freshStreamTally, Tally, freshTally, tallyAt, above15, otherPair, orderOf, tallyAfter, answersTo, tallied}
 use Rattle.tally.specs.Run.{Run, ended, after, by-totals, by-mean}
-use Rattle.tally.specs.Demand.{acceptedVolume, AcceptedIn, here, later, AnalysisShown, nothing, Claim}
+use Rattle.tally.specs.Demand.{acceptedVolume, AcceptedIn, here, later, AnalysisShown, nothing, EachLeaves, Claim}
 use Rattle.tally.proofs.Alike.{Alike}
-use Rattle.tally.proofs.Steps.{Linked, required, step}
+use Rattle.tally.proofs.Steps.{Linked, required, step, step-leaves}
 use Rattle.tally.proofs.Volumes.{volume-sum}
 
 -- near(n / v) is within t + 1 of x / v, where n is within t × v of x
@@ -34,6 +35,12 @@ mean-within t n v x p h =
       below = omega (arith, h .below, mul-le-mul-right (x .den) (r .below));
       above = omega (arith, h .above, mul-le-mul-right (x .den) (r .above));
     }
+
+-- the mean of an account beside the stream k of a meter
+account-ceiling : (m : Meter) (k : ℕ) (l : StreamTally) → k < 16 → Sound m → Alike (streamAt m k) l → 0 < l .volume → near (l .energy .booked) (l .volume) ≤ calorificBound
+account-ceiling m k l b sound a p =
+    rw (← a .energy .amount, ← a .volume)
+    (no-mean-above-ceiling m k _ sound (rw (le-ltb 15 k (omega arith), ne-eqb (streamAt m k .volume) 0 (omega (arith, a .volume)))))
 
 -- a fresh meter beside a fresh tally
 fresh-alike : Alike freshStream freshStreamTally
@@ -59,6 +66,13 @@ run t h (after m m₁ m₂ c a cs rs s more) =
     let n = step m t h s in
     let r = run (tallyAfter t c) (n .linked) more in
     record { answers = cc (n .answer, r .answers); linked = r .linked }
+
+-- what each call leaves
+each-leaves : (m : Meter) (cs : List Call) (rs : List Answer) (m₂ : Meter) (t : Tally) → Linked m t → (ran : Run m cs rs m₂) → EachLeaves m cs rs m₂ ran
+unfolding EachLeaves
+each-leaves m cs rs m₂ t h (ended m₀) = tt
+each-leaves m cs rs m₂ t h (after m₀ m₁ m₃ c a cs₁ rs₁ s more) =
+    (step-leaves m₀ m₁ c a (required m₀ (h .sound)) s, each-leaves m₁ cs₁ rs₁ m₃ (tallyAfter t c) (step m₀ t h s .linked) more)
 
 -- an accepted analysis of the list
 analysis-shown : (bs : List ℕ) (k : ℕ) (s : StreamTally) → firstOf (orderOf k (analysis bs) s) ≡ 0 → AnalysisShown bs
@@ -89,9 +103,15 @@ demand3 m₀ m cs rs made ran =
             totals = λ x got. step m t (r .linked) (by-totals k x got) .answer ∙ rw (le-ltb 15 k (omega arith));
             mean = λ x got p. step m t (r .linked) (by-mean k x got) .answer ∙ rw (le-ltb 15 k (omega arith), ne-eqb (l .volume) 0 (omega arith));
             no-mean = λ x got p. step m t (r .linked) (by-mean k x got) .answer ∙ rw (le-ltb 15 k (omega arith), eq-eqb (l .volume) 0 p);
-            within = record { energy = a .energy .within; mean = λ p. mean-within 2 (l .energy .booked) (l .volume) (l .energy .exact) p (a .energy .within) };
+            within =
+                record {
+                  energy = a .energy .within;
+                  mean = λ p. mean-within 2 (l .energy .booked) (l .volume) (l .energy .exact) p (a .energy .within);
+                  ceiling = λ p. account-ceiling m k l b (r .linked .sound) a p;
+                };
             inForce = a .inForce;
           };
       analyses = λ bs. analyses bs freshTally (r .answers);
+      leaves = each-leaves m₀ cs rs m freshTally start ran;
       required = required m (r .linked .sound);
     }

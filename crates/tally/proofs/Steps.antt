@@ -22,7 +22,7 @@ use Rattle.meter.proofs.Orders.{clear-analysis, clear-metering}
 use Rattle.meter.proofs.Kept.{analysis-keeps, metering-keeps, analysis-leaves-others, metering-leaves-others}
 use Rattle.tally.specs.Tally.{Ask, analysis, metering, totals, mean, Call, Given, done, meanIs, Answer, StreamTally, freshStreamTally, Tally, tallyAt, leftBy, givenBy, numberFor, answerTo, tallyAfter}
 use Rattle.tally.specs.Run.{changeAnswer, totalsGiven, Step, by-analysis, by-metering, by-totals, by-mean}
-use Rattle.tally.specs.Demand.{isReading, Required, Leaves, EveryStepLeaves}
+use Rattle.tally.specs.Demand.{isReading, Required, Leaves}
 use Rattle.tally.proofs.Alike.{Alike, analysis-order, metering-order, mean-order, analysis-alike, metering-alike, totals-alike, mean-alike}
 
 -- a meter beside a tally
@@ -126,12 +126,12 @@ changed-leaves n m c new v after changing gives others =
     refused-keeps zero e = let z = decided-refused zero new _ e in elim (z .1 (z .0)) [ ]
     refused-keeps (suc n) e = refl
 
-pub every-step-leaves : EveryStepLeaves
-every-step-leaves m m₁ c a ask (by-analysis κs k b r got) =
+pub step-leaves : (m m₁ : Meter) (c : Call) (a : Answer) → Required m → Step m c a m₁ → Leaves m c a m₁
+step-leaves m m₁ c a ask (by-analysis κs k b r got) =
     let given = got (ask .analysis κs k b) in
     changed-leaves (firstOf (analysisOrder k (now b) (streamAt m k))) m _ (withStream m k (analysed (streamAt m k) (now b))) (r .verdict) (r .meter) refl given (analysis-leaves-others m k (now b) (r .verdict) (r .meter) given)
-every-step-leaves m m₁ c a ask (by-metering k v r got) =
+step-leaves m m₁ c a ask (by-metering k v r got) =
     let given = got (ask .metering k v) in
     changed-leaves (firstOf (meteringOrder k v (streamAt m k))) m _ (withStream m k (metered (streamAt m k) v)) (r .verdict) (r .meter) refl given (metering-leaves-others m k v (r .verdict) (r .meter) given)
-every-step-leaves m m₁ c a ask (by-totals k r got) = record { refusal = λ n e. refl; reading = λ e. refl; others = λ j e. refl }
-every-step-leaves m m₁ c a ask (by-mean k r got) = record { refusal = λ n e. refl; reading = λ e. refl; others = λ j e. refl }
+step-leaves m m₁ c a ask (by-totals k r got) = record { refusal = λ n e. refl; reading = λ e. refl; others = λ j e. refl }
+step-leaves m m₁ c a ask (by-mean k r got) = record { refusal = λ n e. refl; reading = λ e. refl; others = λ j e. refl }

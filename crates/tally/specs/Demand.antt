@@ -3,7 +3,7 @@ use mathlib.Core.Path.{_≡_}
 use mathlib.Core.List.{List, [], _∷_}
 use mathlib.Core.Bool.{Bool, true, false, cond}
 use mathlib.Core.Option.{Option, none, some}
-use Prim.Native.Nat.{ℕ, _+_, _*_, _<_}
+use Prim.Native.Nat.{ℕ, _+_, _*_, _≤_, _<_}
 use contract.Lifetimes.{Lfts}
 use denote.Ref.{RefT}
 use lib.Dec.{eqb}
@@ -14,6 +14,7 @@ use Rattle.records.specs.Format.{Contents, combustionIn, meteringIn}
 use Rattle.records.specs.Calls.{readingOf}
 use Rattle.properties.specs.Chain.{propertiesOf}
 use Rattle.properties.specs.Answers.{numbers}
+use Rattle.properties.specs.Quantities.{calorificBound}
 use Rattle.properties.specs.Accepted.{Shown}
 use Rattle.meter.specs.declared.Gas.{Gas}
 use Rattle.meter.specs.declared.InForce.{InForce}
@@ -23,7 +24,7 @@ use Rattle.meter.specs.declared.TotalsAnswer.{TotalsAnswer}
 use Rattle.meter.specs.declared.MeanAnswer.{MeanAnswer}
 use Rattle.meter.specs.State.{streamAt}
 use Rattle.tally.specs.Tally.{Ask, analysis, metering, totals, mean, Call, done, Answer, Account, StreamTally, givenBy, tallyAt, freshTally, answersTo, tallied}
-use Rattle.tally.specs.Run.{AnalysisAsks, MeteringAsks, TotalsAsks, MeanAsks, FreshReturns, TotalsReturns, MeanReturns, totalsAnswer, meanAnswer, Step, Run}
+use Rattle.tally.specs.Run.{AnalysisAsks, MeteringAsks, TotalsAsks, MeanAsks, FreshReturns, TotalsReturns, MeanReturns, totalsAnswer, meanAnswer, Run, ended, after}
 
 -- the volume that a call added: that of an accepted metering call
 abbrev pub addedBy : Ask → Answer → ℕ
@@ -56,10 +57,12 @@ pub data SameInForce : InForce → Option (List ℕ) → Type 0 where
   known : (bs : List ℕ) (gas : Gas) → gas .combustion ≡ combustionIn bs → gas .metering ≡ meteringIn bs →
       accepted (numbers (gas .properties)) ≡ propertiesOf bs → SameInForce (Known gas) (some bs)
 
--- the booked energy E is within 2 mJ per dm³ of V from the exact energy X, and where V is above 0 the mean is within 3 J/m³ of X / V
+-- the booked energy E is within 2 mJ per dm³ of V from the exact energy X, and where V is above 0 the mean is within 3 J/m³ of X / V,
+-- and not above the ceiling of a calorific value
 pub record AccountWithin (v : ℕ) (a : Account) : Type 0 where
   pub energy : Within (whole (2 * v)) (a .booked) (a .exact)
   pub mean : 0 < v → Within (whole 3) (near (a .booked) v) (dividedBy (a .exact) v)
+  pub ceiling : 0 < v → near (a .booked) v ≤ calorificBound
 
 -- the stream k after the list; s is what the tally keeps for it
 pub record StreamDemand (k : ℕ) (s : StreamTally) (cs : List Call) (rs : List Answer) (m : Meter) : Type 0 where
@@ -80,33 +83,6 @@ pub record Required (m : Meter) : Type 0 where
   pub totals : (k : ℕ) → TotalsAsks m k
   pub mean : (k : ℕ) → MeanAsks m k
 
-pub record Demand3 (cs : List Call) (rs : List Answer) (m : Meter) : Type 0 where
-  -- each call is accepted where the tally accepts it, refused by the tally's number where not, and each accepted reading answers what
-  -- the tally gives
-  pub answers : rs ≡ answersTo freshTally cs
-  pub each : (k : ℕ) → k < 16 → StreamDemand k (tallyAt (tallied freshTally cs) k) cs rs m
-  -- each accepted analysis of the list
-  pub analyses : (bs : List ℕ) → AcceptedIn bs cs rs → AnalysisShown bs
-  -- what the contracts require holds after the list; since the claim is for every list, it holds before each of its calls too
-  pub required : Required m
-
--- demand 3: for every list of calls from a meter that `fresh` returned
-abbrev pub Claim : Type 0
-Claim = (m₀ m : Meter) (cs : List Call) (rs : List Answer) → FreshReturns m₀ → Run m₀ cs rs m → Demand3 cs rs m
-
--- the claim is not empty: every list of calls has a run from every meter, and there is a fresh meter
-pub record HasRun (m : Meter) (cs : List Call) : Type 0 where
-  pub answers : List Answer
-  pub meter : Meter
-  pub run : Run m cs answers meter
-
-abbrev pub EveryListHasRun : Type 0
-EveryListHasRun = (m : Meter) (cs : List Call) → HasRun m cs
-
-pub record HasFresh : Type 0 where
-  pub meter : Meter
-  pub returns : FreshReturns meter
-
 -- totals and mean are readings
 abbrev pub isReading : Ask → Bool
 isReading (analysis bs) = false
@@ -120,5 +96,37 @@ pub record Leaves (m : Meter) (c : Call) (a : Answer) (m₁ : Meter) : Type 0 wh
   pub reading : isReading (c .ask) ≡ true → m₁ ≡ m
   pub others : (j : ℕ) → (j ≡ c .stream → ⊥) → streamAt m₁ j ≡ streamAt m j
 
-abbrev pub EveryStepLeaves : Type 0
-EveryStepLeaves = (m m₁ : Meter) (c : Call) (a : Answer) → Required m → Step m c a m₁ → Leaves m c a m₁
+-- each call of a list, on the meter as the call before it returned or left it
+unfoldable pub EachLeaves : (m : Meter) (cs : List Call) (rs : List Answer) (m' : Meter) → Run m cs rs m' → Type 0
+EachLeaves m cs rs m' (ended m₁) = Unit
+EachLeaves m cs rs m' (after m₀ m₁ m₂ c a cs₁ rs₁ s more) = Leaves m₀ c a m₁ × EachLeaves m₁ cs₁ rs₁ m₂ more
+
+-- the list cs from the meter m₀, with the answers rs and the meter m after it
+pub record Demand3 (m₀ : Meter) (cs : List Call) (rs : List Answer) (m : Meter) (ran : Run m₀ cs rs m) : Type 0 where
+  -- each call is accepted where the tally accepts it, refused by the tally's number where not, and each accepted reading answers what
+  -- the tally gives
+  pub answers : rs ≡ answersTo freshTally cs
+  pub each : (k : ℕ) → k < 16 → StreamDemand k (tallyAt (tallied freshTally cs) k) cs rs m
+  -- each accepted analysis of the list
+  pub analyses : (bs : List ℕ) → AcceptedIn bs cs rs → AnalysisShown bs
+  -- each refused call and each reading of the list leaves the meter as it was, and each call every stream but the named one
+  pub leaves : EachLeaves m₀ cs rs m ran
+  -- what the contracts require holds after the list; since the claim is for every list, it holds before each of its calls too
+  pub required : Required m
+
+-- demand 3: for every list of calls from a meter that `fresh` returned
+abbrev pub Claim : Type 0
+Claim = (m₀ m : Meter) (cs : List Call) (rs : List Answer) → FreshReturns m₀ → (ran : Run m₀ cs rs m) → Demand3 m₀ cs rs m ran
+
+-- the claim is not empty: every list of calls has a run from every meter, and there is a fresh meter
+pub record HasRun (m : Meter) (cs : List Call) : Type 0 where
+  pub answers : List Answer
+  pub meter : Meter
+  pub run : Run m cs answers meter
+
+abbrev pub EveryListHasRun : Type 0
+EveryListHasRun = (m : Meter) (cs : List Call) → HasRun m cs
+
+pub record HasFresh : Type 0 where
+  pub meter : Meter
+  pub returns : FreshReturns meter
