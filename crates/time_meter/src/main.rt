@@ -4,10 +4,14 @@ use libc::STDOUT_FILENO;
 use meter::MeanAnswer;
 use meter::Meter;
 use meter::TotalsAnswer;
+ghost use mathlib.Core.Path.{_≡_};
 ghost use Rattle.meter.specs.State.{Sound};
+ghost use Rattle.time_meter.specs.Calls.{temperatureOf, methaneAt, analysedTo, meteredTo};
 
 // 15 °C for even streams, 0 °C for odd ones.
-fn temperature(stream: usize) -> u8 {
+fn temperature(stream: usize) -> u8
+    ensures { λ r. ⌜ r ≡ temperatureOf stream ⌝ }
+{
     if stream % 2 == 0 {
         return 15;
     }
@@ -15,21 +19,16 @@ fn temperature(stream: usize) -> u8 {
 }
 
 // The record of methane alone at t/t.
-fn methane(t: u8) -> [u8; 13] {
-    [b'G', b'C', b'R', 1, 0, t, t, 1, 1, 0x40, 0x42, 0x0F, 0]
-}
-
-// A meter as made.
-fn fresh() -> Meter
-    ensures { λ r. ⌜ Sound r ⌝ }
+fn methane(t: u8) -> [u8; 13]
+    ensures { λ r. ⌜ r ≡ methaneAt t ⌝ }
 {
-    meter::fresh()
+    [b'G', b'C', b'R', 1, 0, t, t, 1, 1, 0x40, 0x42, 0x0F, 0]
 }
 
 // An analysis on each stream.
 fn analysed(m: Meter) -> Meter
     requires { ⌜ Sound m ⌝ }
-    ensures { λ r. ⌜ Sound r ⌝ }
+    ensures { λ r. ⌜ (r ≡ analysedTo 16 m) × Sound r ⌝ }
 {
     let mut after = m;
     let mut stream: usize = 0;
@@ -45,7 +44,7 @@ fn analysed(m: Meter) -> Meter
 // The metering calls, from stream to stream.
 fn metered(m: Meter) -> Meter
     requires { ⌜ Sound m ⌝ }
-    ensures { λ r. ⌜ Sound r ⌝ }
+    ensures { λ r. ⌜ (r ≡ meteredTo 10000000 m) × Sound r ⌝ }
 {
     let mut after = m;
     let mut i: u64 = 0;
@@ -107,7 +106,7 @@ fn print_streams(m: Meter)
 }
 
 fn main() {
-    let m0 = fresh();
+    let m0 = meter::fresh();
     let m1 = analysed(m0);
     let m2 = metered(m1);
     print_streams(m2);
