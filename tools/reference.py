@@ -4,7 +4,9 @@ of Python, and tables 1 to 5 from the second transcription of source document 00
 
 usage: tools/reference.py rows       the rows of `gases` in crates/properties/specs/Cases.antt
        tools/reference.py output     what crates/try_properties prints: its file `stdout`
+       tools/reference.py records    what crates/try_properties reads: its file `stdin`
        tools/reference.py meter      what crates/try_meter prints: its file `stdout`
+       tools/reference.py calls      what crates/try_meter reads: its file `stdin`
        tools/reference.py printed    what crates/printed_tables prints: its file `stdout`
 """
 import csv
@@ -47,6 +49,12 @@ def properties(combustion, metering, gas):
     return Z, Hs, Hi, rho, d, W
 
 
+def record(combustion, metering, gas, mark=b"GCR", version=1):
+    """The analysis record of a gas, or one with another mark or version."""
+    entries = b"".join(bytes([line]) + x.to_bytes(4, "little") for line, x in gas)
+    return mark + version.to_bytes(2, "little") + bytes([combustion, metering, len(gas)]) + entries
+
+
 def methane_and(*others):
     """Methane up to 1,000,000, and other lines with their fractions."""
     return [(1, 1000000 - sum(x for _, x in others)), *others]
@@ -81,29 +89,29 @@ QUANTITIES = [
     ("relative density", 10**8, 390000000),
     ("Wobbe index", 10**6, 470000000),
 ]
-# title, and a gas at 15/15 or the number of its refusal, as document 01 has it
+# title, and a gas at 15/15; or the number of its refusal, as document 01 has it, and what is refused
 CASES = [
     ("K1", ANNEX_D),
     ("K2", methane_and()),
     ("K3, 999,900", [(1, 999900)]),
     ("K3, 1,000,100", [(1, 1000100)]),
-    ("K3, 999,899", 9),
-    ("K3, 1,000,101", 9),
+    ("K3, 999,899", 9, record(15, 15, [(1, 999899)])),
+    ("K3, 1,000,101", 9, record(15, 15, [(1, 1000101)])),
     ("K4, 300,000", methane_and((52, 300000))),
-    ("K4, 300,001", 11),
+    ("K4, 300,001", 11, record(15, 15, methane_and((52, 300001)))),
     ("K5, methane 500,000", methane_and((2, 50000), (52, 300000), (54, 150000))),
-    ("K5, methane 499,999", 10),
+    ("K5, methane 499,999", 10, record(15, 15, methane_and((2, 50001), (52, 300000), (54, 150000)))),
     ("K6, water 200", methane_and((42, 200))),
-    ("K6, water 201", 12),
+    ("K6, water 201", 12, record(15, 15, methane_and((42, 201)))),
     ("K7", methane_and((55, 50000))),
-    ("K8, 25/15", 4),
-    ("K8, line 1 twice", 7),
-    ("7 bytes", 1),
-    ("mark GCS", 2),
-    ("version 2", 3),
-    ("no entry", 5),
-    ("a byte short", 6),
-    ("fraction 0", 8),
+    ("K8, 25/15", 4, record(25, 15, methane_and())),
+    ("K8, line 1 twice", 7, record(15, 15, methane_and((1, 500000)))),
+    ("7 bytes", 1, record(15, 15, [])[:7]),
+    ("mark GCS", 2, record(15, 15, methane_and(), mark=b"GCS")),
+    ("version 2", 3, record(15, 15, methane_and(), version=2)),
+    ("no entry", 5, record(15, 15, [])),
+    ("a byte short", 6, record(15, 15, methane_and())[:-1]),
+    ("fraction 0", 8, record(15, 15, [(1, 0)])),
 ]
 
 
@@ -117,7 +125,7 @@ def rows():
 
 def output():
     answers = [(title, properties(combustion, metering, gas)) for title, _, combustion, metering, gas in GASES]
-    answers += [(title, case if isinstance(case, int) else properties(15, 15, case)) for title, case in CASES]
+    answers += [(title, case if isinstance(case, int) else properties(15, 15, case)) for title, case, *_ in CASES]
     for title, answer in answers:
         yield f"{title}:"
         if isinstance(answer, int):
@@ -126,6 +134,14 @@ def output():
             yield from (f"{name} {number}" for name, number in zip(["Z", "Hs", "Hi", "rho", "d", "W"], answer))
     for name, scale, bound in QUANTITIES:
         yield f"{name} {scale} {bound}"
+
+
+def records():
+    """For each of `output`: the lengths of its title, 1 byte, and of its record, 2 bytes, and the two."""
+    cases = [(title, record(combustion, metering, gas)) for title, _, combustion, metering, gas in GASES]
+    cases += [(title, refused[0] if refused else record(15, 15, case)) for title, case, *refused in CASES]
+    for title, bytes_ in cases:
+        yield len(title).to_bytes(1, "little") + len(bytes_).to_bytes(2, "little") + title.encode() + bytes_
 
 
 class Stream:
@@ -333,6 +349,8 @@ if __name__ == "__main__":
         print("\n".join(rows()))
     elif asked == ["output"]:
         print("\n".join(output()))
+    elif asked == ["records"]:
+        sys.stdout.buffer.write(b"".join(records()))
     elif asked == ["meter"]:
         print("\n".join(meter()))
     elif asked == ["printed"]:
