@@ -196,14 +196,16 @@ class Meter:
 
 K2 = (" K2", ((15, 15), methane_and()))
 AT_0 = (" 0/0", ((0, 0), methane_and()))
+LITTLE_AT_0 = (" 0/0, methane 999,899", 9, record(0, 0, [(1, 999899)]))
 NITROGEN = (" nitrogen 300,000", ((15, 15), methane_and((52, 300000))))
 # lists of calls, each from a fresh meter: a stream, and what is asked of it. A number is a volume to meter, a title with a record is an
-# analysis, `read` is both readings, and `fill` meters 99,999 times 10,000,000 dm³ and prints nothing
+# analysis, where what is refused stands beside its number, `read` is both readings, and `fill` meters 99,999 times 10,000,000 dm³ and
+# prints nothing
 CALLS = [
     [(0, 1000), (0, K2), (0, 1000), (0, "read")],
-    [(16, (" no record", 1)), (16, 10000001), (2**64 - 1, "read")],
+    [(16, (" no record", 1, b"")), (16, 10000001), (2**64 - 1, "read")],
     [(15, 2**64 - 1), (15, 10000000), (15, K2), (15, 10000001), (15, 0), (15, "read"), (15, 10000000), (15, "read"), (14, "read")],
-    [(3, K2), (3, AT_0), (3, (" 0/0, methane 999,899", 9)), (4, AT_0), (3, 27), (4, 27), (3, "read"), (4, "read")],
+    [(3, K2), (3, AT_0), (3, LITTLE_AT_0), (4, AT_0), (3, 27), (4, 27), (3, "read"), (4, "read")],
     [(7, K2), (7, 26), (7, "read"), (7, NITROGEN), (7, 1), (7, "read")],
     [(9, K2), (9, "fill"), (9, "read"), (9, 10000000), (9, 9999999), (9, 1), (9, 10000001), (9, 0), (9, "read")],
 ]
@@ -227,6 +229,26 @@ def meter():
                 yield f"metering {k} {what}: {said(m.metering(k, what))}"
             else:
                 yield f"analysis {k}{what[0]}: {said(m.analysis(k, what[1]))}"
+
+
+def call(kind, k=0, volume=0, title="", given=b""):
+    return kind + bytes([len(title), len(given)]) + k.to_bytes(8, "little") + volume.to_bytes(8, "little") + title.encode() + given
+
+
+def calls():
+    """For each list of CALLS: `n`, and its calls, as crates/try_meter/src/main.rt has them."""
+    for listed in CALLS:
+        yield call(b"n")
+        for k, what in listed:
+            if what == "read":
+                yield call(b"r", k)
+            elif what == "fill":
+                yield call(b"f", k)
+            elif isinstance(what, int):
+                yield call(b"m", k, volume=what)
+            else:
+                title, given, *refused = what
+                yield call(b"a", k, title=title, given=refused[0] if refused else record(*given[0], given[1]))
 
 
 class Figures:
@@ -353,6 +375,8 @@ if __name__ == "__main__":
         sys.stdout.buffer.write(b"".join(records()))
     elif asked == ["meter"]:
         print("\n".join(meter()))
+    elif asked == ["calls"]:
+        sys.stdout.buffer.write(b"".join(calls()))
     elif asked == ["printed"]:
         print("\n".join(printed()))
     else:
