@@ -5,6 +5,7 @@ of Python, and tables 1 to 5 from the second transcription of source document 00
 usage: tools/reference.py rows       the rows of `gases` in crates/properties/specs/Cases.antt
        tools/reference.py output     what crates/try_properties prints: its file `stdout`
        tools/reference.py records    what crates/try_properties reads: its file `stdin`
+       tools/reference.py read       what crates/try_records reads: its file `stdin`
        tools/reference.py meter      what crates/try_meter prints: its file `stdout`
        tools/reference.py calls      what crates/try_meter reads: its file `stdin`
        tools/reference.py printed    what crates/printed_tables prints: its file `stdout`
@@ -142,6 +143,27 @@ def records():
     cases += [(title, refused[0] if refused else record(15, 15, case)) for title, case, *refused in CASES]
     for title, bytes_ in cases:
         yield len(title).to_bytes(1, "little") + len(bytes_).to_bytes(2, "little") + title.encode() + bytes_
+
+
+# what crates/try_records reads and writes again: K2, also at 25/20; the refused records of K3 to K8; a fraction of 0; and bytes that end
+# early or late
+READ = [
+    record(15, 15, methane_and()),
+    record(25, 20, methane_and()),
+    *[refused[0] for title, _, *refused in CASES if refused and title.startswith("K")],
+    record(15, 15, [(1, 1000000), (2, 0)]),
+    b"",
+    record(15, 15, methane_and())[:7],
+    record(15, 15, methane_and())[:8],
+    record(15, 15, methane_and()) + b"\0",
+    *[record(15, 15, [])[:7] + bytes([n]) + b"\1" * 1275 for n in (55, 255)],
+]
+
+
+def read():
+    """For each of READ: its length, 2 bytes, and itself."""
+    for given in READ:
+        yield len(given).to_bytes(2, "little") + given
 
 
 class Stream:
@@ -373,6 +395,8 @@ if __name__ == "__main__":
         print("\n".join(output()))
     elif asked == ["records"]:
         sys.stdout.buffer.write(b"".join(records()))
+    elif asked == ["read"]:
+        sys.stdout.buffer.write(b"".join(read()))
     elif asked == ["meter"]:
         print("\n".join(meter()))
     elif asked == ["calls"]:
