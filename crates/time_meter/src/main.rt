@@ -1,6 +1,5 @@
 // Makes 10,000,000 metering calls over all sixteen streams, and prints for each stream its number, volume, whole MJ, rest in mJ and mean.
 // rust/benches/meter.rs runs it, makes the same calls on meters in Rust, and compares what is printed and the times.
-use libc::STDOUT_FILENO;
 use meter::MeanAnswer;
 use meter::Meter;
 use meter::TotalsAnswer;
@@ -56,24 +55,18 @@ fn metered(m: Meter) -> Meter
     after
 }
 
-// A space, and a number.
-fn print_number(n: u64) {
-    io::write_all(STDOUT_FILENO, b" ");
-    io::print_decimal(STDOUT_FILENO, n);
-}
-
 fn print_refused(number: u8) {
-    io::write_all(STDOUT_FILENO, b" refused");
-    print_number(number as u64);
+    report::print_text(b" ");
+    report::print_refused(number);
 }
 
 fn print_totals(m: Meter, stream: usize) {
     match meter::totals(m, stream) {
         TotalsAnswer::Accepted(t) => {
             let energy = t.energy;
-            print_number(t.volume);
-            print_number(energy.whole);
-            print_number(energy.rest);
+            report::print_spaced(t.volume);
+            report::print_spaced(energy.whole);
+            report::print_spaced(energy.rest);
         }
         TotalsAnswer::Refused(number) => print_refused(number),
     }
@@ -83,7 +76,9 @@ fn print_mean(m: Meter, stream: usize)
     requires { ⌜ Sound m ⌝ }
 {
     match meter::mean(m, stream) {
-        MeanAnswer::Accepted(h) => print_number(h.value()),
+        MeanAnswer::Accepted(h) => {
+            report::print_spaced(h.value());
+        }
         MeanAnswer::Refused(number) => print_refused(number),
     }
 }
@@ -91,10 +86,10 @@ fn print_mean(m: Meter, stream: usize)
 fn print_stream(m: Meter, stream: usize)
     requires { ⌜ Sound m ⌝ }
 {
-    io::print_decimal(STDOUT_FILENO, stream as u64);
+    report::print_number(stream as u64);
     print_totals(m, stream);
     print_mean(m, stream);
-    io::write_all(STDOUT_FILENO, b"\n");
+    report::print_text(b"\n");
 }
 
 fn print_streams(m: Meter)
