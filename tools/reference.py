@@ -4,7 +4,10 @@ of Python, and tables 1 to 5 from the second transcription of source document 00
 
 usage: tools/reference.py rows       the rows of `gases` in crates/properties/specs/Cases.antt
        tools/reference.py output     what crates/try_properties prints: its file `stdout`
+       tools/reference.py records    what crates/try_properties reads: its file `stdin`
+       tools/reference.py read       what crates/try_records reads: its file `stdin`
        tools/reference.py meter      what crates/try_meter prints: its file `stdout`
+       tools/reference.py calls      what crates/try_meter reads: its file `stdin`
        tools/reference.py printed    what crates/printed_tables prints: its file `stdout`
 """
 import csv
@@ -47,6 +50,12 @@ def properties(combustion, metering, gas):
     return Z, Hs, Hi, rho, d, W
 
 
+def record(combustion, metering, gas, mark=b"GCR", version=1):
+    """The analysis record of a gas, or one with another mark or version."""
+    entries = b"".join(bytes([line]) + x.to_bytes(4, "little") for line, x in gas)
+    return mark + version.to_bytes(2, "little") + bytes([combustion, metering, len(gas)]) + entries
+
+
 def methane_and(*others):
     """Methane up to 1,000,000, and other lines with their fractions."""
     return [(1, 1000000 - sum(x for _, x in others)), *others]
@@ -81,29 +90,29 @@ QUANTITIES = [
     ("relative density", 10**8, 390000000),
     ("Wobbe index", 10**6, 470000000),
 ]
-# title, and a gas at 15/15 or the number of its refusal, as document 01 has it
+# title, and a gas at 15/15; or the number of its refusal, as document 01 has it, and what is refused
 CASES = [
     ("K1", ANNEX_D),
     ("K2", methane_and()),
     ("K3, 999,900", [(1, 999900)]),
     ("K3, 1,000,100", [(1, 1000100)]),
-    ("K3, 999,899", 9),
-    ("K3, 1,000,101", 9),
+    ("K3, 999,899", 9, record(15, 15, [(1, 999899)])),
+    ("K3, 1,000,101", 9, record(15, 15, [(1, 1000101)])),
     ("K4, 300,000", methane_and((52, 300000))),
-    ("K4, 300,001", 11),
+    ("K4, 300,001", 11, record(15, 15, methane_and((52, 300001)))),
     ("K5, methane 500,000", methane_and((2, 50000), (52, 300000), (54, 150000))),
-    ("K5, methane 499,999", 10),
+    ("K5, methane 499,999", 10, record(15, 15, methane_and((2, 50001), (52, 300000), (54, 150000)))),
     ("K6, water 200", methane_and((42, 200))),
-    ("K6, water 201", 12),
+    ("K6, water 201", 12, record(15, 15, methane_and((42, 201)))),
     ("K7", methane_and((55, 50000))),
-    ("K8, 25/15", 4),
-    ("K8, line 1 twice", 7),
-    ("7 bytes", 1),
-    ("mark GCS", 2),
-    ("version 2", 3),
-    ("no entry", 5),
-    ("a byte short", 6),
-    ("fraction 0", 8),
+    ("K8, 25/15", 4, record(25, 15, methane_and())),
+    ("K8, line 1 twice", 7, record(15, 15, methane_and((1, 500000)))),
+    ("7 bytes", 1, record(15, 15, [])[:7]),
+    ("mark GCS", 2, record(15, 15, methane_and(), mark=b"GCS")),
+    ("version 2", 3, record(15, 15, methane_and(), version=2)),
+    ("no entry", 5, record(15, 15, [])),
+    ("a byte short", 6, record(15, 15, methane_and())[:-1]),
+    ("fraction 0", 8, record(15, 15, [(1, 0)])),
 ]
 
 
@@ -117,7 +126,7 @@ def rows():
 
 def output():
     answers = [(title, properties(combustion, metering, gas)) for title, _, combustion, metering, gas in GASES]
-    answers += [(title, case if isinstance(case, int) else properties(15, 15, case)) for title, case in CASES]
+    answers += [(title, case if isinstance(case, int) else properties(15, 15, case)) for title, case, *_ in CASES]
     for title, answer in answers:
         yield f"{title}:"
         if isinstance(answer, int):
@@ -126,6 +135,35 @@ def output():
             yield from (f"{name} {number}" for name, number in zip(["Z", "Hs", "Hi", "rho", "d", "W"], answer))
     for name, scale, bound in QUANTITIES:
         yield f"{name} {scale} {bound}"
+
+
+def records():
+    """For each of `output`: the lengths of its title, 1 byte, and of its record, 2 bytes, and the two."""
+    cases = [(title, record(combustion, metering, gas)) for title, _, combustion, metering, gas in GASES]
+    cases += [(title, refused[0] if refused else record(15, 15, case)) for title, case, *refused in CASES]
+    for title, bytes_ in cases:
+        yield len(title).to_bytes(1, "little") + len(bytes_).to_bytes(2, "little") + title.encode() + bytes_
+
+
+# what crates/try_records reads and writes again: K2, also at 25/20; the refused records of K3 to K8; a fraction of 0; and bytes that end
+# early or late
+READ = [
+    record(15, 15, methane_and()),
+    record(25, 20, methane_and()),
+    *[refused[0] for title, _, *refused in CASES if refused and title.startswith("K")],
+    record(15, 15, [(1, 1000000), (2, 0)]),
+    b"",
+    record(15, 15, methane_and())[:7],
+    record(15, 15, methane_and())[:8],
+    record(15, 15, methane_and()) + b"\0",
+    *[record(15, 15, [])[:7] + bytes([n]) + b"\1" * 1275 for n in (55, 255)],
+]
+
+
+def read():
+    """For each of READ: its length, 2 bytes, and itself."""
+    for given in READ:
+        yield len(given).to_bytes(2, "little") + given
 
 
 class Stream:
@@ -180,14 +218,16 @@ class Meter:
 
 K2 = (" K2", ((15, 15), methane_and()))
 AT_0 = (" 0/0", ((0, 0), methane_and()))
+LITTLE_AT_0 = (" 0/0, methane 999,899", 9, record(0, 0, [(1, 999899)]))
 NITROGEN = (" nitrogen 300,000", ((15, 15), methane_and((52, 300000))))
 # lists of calls, each from a fresh meter: a stream, and what is asked of it. A number is a volume to meter, a title with a record is an
-# analysis, `read` is both readings, and `fill` meters 99,999 times 10,000,000 dm³ and prints nothing
+# analysis, where what is refused stands beside its number, `read` is both readings, and `fill` meters 99,999 times 10,000,000 dm³ and
+# prints nothing
 CALLS = [
     [(0, 1000), (0, K2), (0, 1000), (0, "read")],
-    [(16, (" no record", 1)), (16, 10000001), (2**64 - 1, "read")],
+    [(16, (" no record", 1, b"")), (16, 10000001), (2**64 - 1, "read")],
     [(15, 2**64 - 1), (15, 10000000), (15, K2), (15, 10000001), (15, 0), (15, "read"), (15, 10000000), (15, "read"), (14, "read")],
-    [(3, K2), (3, AT_0), (3, (" 0/0, methane 999,899", 9)), (4, AT_0), (3, 27), (4, 27), (3, "read"), (4, "read")],
+    [(3, K2), (3, AT_0), (3, LITTLE_AT_0), (4, AT_0), (3, 27), (4, 27), (3, "read"), (4, "read")],
     [(7, K2), (7, 26), (7, "read"), (7, NITROGEN), (7, 1), (7, "read")],
     [(9, K2), (9, "fill"), (9, "read"), (9, 10000000), (9, 9999999), (9, 1), (9, 10000001), (9, 0), (9, "read")],
 ]
@@ -211,6 +251,26 @@ def meter():
                 yield f"metering {k} {what}: {said(m.metering(k, what))}"
             else:
                 yield f"analysis {k}{what[0]}: {said(m.analysis(k, what[1]))}"
+
+
+def call(kind, k=0, volume=0, title="", given=b""):
+    return kind + bytes([len(title), len(given)]) + k.to_bytes(8, "little") + volume.to_bytes(8, "little") + title.encode() + given
+
+
+def calls():
+    """For each list of CALLS: `n`, and its calls, as crates/try_meter/src/main.rt has them."""
+    for listed in CALLS:
+        yield call(b"n")
+        for k, what in listed:
+            if what == "read":
+                yield call(b"r", k)
+            elif what == "fill":
+                yield call(b"f", k)
+            elif isinstance(what, int):
+                yield call(b"m", k, volume=what)
+            else:
+                title, given, *refused = what
+                yield call(b"a", k, title=title, given=refused[0] if refused else record(*given[0], given[1]))
 
 
 class Figures:
@@ -333,8 +393,14 @@ if __name__ == "__main__":
         print("\n".join(rows()))
     elif asked == ["output"]:
         print("\n".join(output()))
+    elif asked == ["records"]:
+        sys.stdout.buffer.write(b"".join(records()))
+    elif asked == ["read"]:
+        sys.stdout.buffer.write(b"".join(read()))
     elif asked == ["meter"]:
         print("\n".join(meter()))
+    elif asked == ["calls"]:
+        sys.stdout.buffer.write(b"".join(calls()))
     elif asked == ["printed"]:
         print("\n".join(printed()))
     else:

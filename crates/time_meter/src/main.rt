@@ -1,13 +1,16 @@
 // Makes 10,000,000 metering calls over all sixteen streams, and prints for each stream its number, volume, whole MJ, rest in mJ and mean.
 // rust/benches/meter.rs runs it, makes the same calls on meters in Rust, and compares what is printed and the times.
-use libc::STDOUT_FILENO;
 use meter::MeanAnswer;
 use meter::Meter;
 use meter::TotalsAnswer;
+ghost use mathlib.Core.Path.{_≡_};
 ghost use Rattle.meter.specs.State.{Sound};
+ghost use Rattle.time_meter.specs.Calls.{temperatureOf, methaneAt, analysedTo, meteredTo};
 
 // 15 °C for even streams, 0 °C for odd ones.
-fn temperature(stream: usize) -> u8 {
+fn temperature(stream: usize) -> u8
+    ensures { λ r. ⌜ r ≡ temperatureOf stream ⌝ }
+{
     if stream % 2 == 0 {
         return 15;
     }
@@ -15,21 +18,16 @@ fn temperature(stream: usize) -> u8 {
 }
 
 // The record of methane alone at t/t.
-fn methane(t: u8) -> [u8; 13] {
-    [b'G', b'C', b'R', 1, 0, t, t, 1, 1, 0x40, 0x42, 0x0F, 0]
-}
-
-// A meter as made.
-fn fresh() -> Meter
-    ensures { λ r. ⌜ Sound r ⌝ }
+fn methane(t: u8) -> [u8; 13]
+    ensures { λ r. ⌜ r ≡ methaneAt t ⌝ }
 {
-    meter::fresh()
+    [b'G', b'C', b'R', 1, 0, t, t, 1, 1, 0x40, 0x42, 0x0F, 0]
 }
 
 // An analysis on each stream.
 fn analysed(m: Meter) -> Meter
     requires { ⌜ Sound m ⌝ }
-    ensures { λ r. ⌜ Sound r ⌝ }
+    ensures { λ r. ⌜ (r ≡ analysedTo 16 m) × Sound r ⌝ }
 {
     let mut after = m;
     let mut stream: usize = 0;
@@ -45,7 +43,7 @@ fn analysed(m: Meter) -> Meter
 // The metering calls, from stream to stream.
 fn metered(m: Meter) -> Meter
     requires { ⌜ Sound m ⌝ }
-    ensures { λ r. ⌜ Sound r ⌝ }
+    ensures { λ r. ⌜ (r ≡ meteredTo 10000000 m) × Sound r ⌝ }
 {
     let mut after = m;
     let mut i: u64 = 0;
@@ -57,24 +55,18 @@ fn metered(m: Meter) -> Meter
     after
 }
 
-// A space, and a number.
-fn print_number(n: u64) {
-    io::write_all(STDOUT_FILENO, b" ");
-    io::print_decimal(STDOUT_FILENO, n);
-}
-
 fn print_refused(number: u8) {
-    io::write_all(STDOUT_FILENO, b" refused");
-    print_number(number as u64);
+    report::print_text(b" ");
+    report::print_refused(number);
 }
 
 fn print_totals(m: Meter, stream: usize) {
     match meter::totals(m, stream) {
         TotalsAnswer::Accepted(t) => {
             let energy = t.energy;
-            print_number(t.volume);
-            print_number(energy.whole);
-            print_number(energy.rest);
+            report::print_spaced(t.volume);
+            report::print_spaced(energy.whole);
+            report::print_spaced(energy.rest);
         }
         TotalsAnswer::Refused(number) => print_refused(number),
     }
@@ -84,7 +76,9 @@ fn print_mean(m: Meter, stream: usize)
     requires { ⌜ Sound m ⌝ }
 {
     match meter::mean(m, stream) {
-        MeanAnswer::Accepted(h) => print_number(h.value()),
+        MeanAnswer::Accepted(h) => {
+            report::print_spaced(h.value());
+        }
         MeanAnswer::Refused(number) => print_refused(number),
     }
 }
@@ -92,10 +86,10 @@ fn print_mean(m: Meter, stream: usize)
 fn print_stream(m: Meter, stream: usize)
     requires { ⌜ Sound m ⌝ }
 {
-    io::print_decimal(STDOUT_FILENO, stream as u64);
+    report::print_number(stream as u64);
     print_totals(m, stream);
     print_mean(m, stream);
-    io::write_all(STDOUT_FILENO, b"\n");
+    report::print_text(b"\n");
 }
 
 fn print_streams(m: Meter)
@@ -107,7 +101,7 @@ fn print_streams(m: Meter)
 }
 
 fn main() {
-    let m0 = fresh();
+    let m0 = meter::fresh();
     let m1 = analysed(m0);
     let m2 = metered(m1);
     print_streams(m2);

@@ -1,204 +1,65 @@
-// Runs the compiled calls of the meter: K9 of document 01, each refusal from 13 to 18, some where a later condition of the order holds
-// too, the carry from the rest to the whole MJ, two gases on one stream, and a stream that is full; and prints what comes back.
-use libc::STDOUT_FILENO;
+// Runs the compiled calls of the meter that its input lists and prints what comes back: K9 of document 01, each refusal from 13 to 18,
+// some where a later condition of the order holds too, the carry from the rest to the whole MJ, two gases on one stream, and a stream
+// that is full.
+//
+// The input is made by `tools/reference.py calls`, whose `CALLS` has the lists. A call is a letter, the lengths of a title and of a
+// record (1 byte each), a stream and a volume in dm³ (8 bytes each, least significant first), the title, and the record. The letter
+// `n` takes a fresh meter, `a` is an analysis, `m` a metering call, `f` fills a stream, and `r` reads one.
+use libc::STDIN_FILENO;
 use meter::MeanAnswer;
 use meter::Meter;
 use meter::TotalsAnswer;
 use records::Verdict;
+ghost use mathlib.Core.Path.{_≡_};
+ghost use Prim.Native.Nat.{_+_, _≤_, _<_};
+ghost use lib.ListN.{length};
+ghost use Rattle.records.specs.Format.{number4};
 ghost use Rattle.meter.specs.State.{Sound};
-
-fn text(words: &[u8]) {
-    io::write_all(STDOUT_FILENO, words);
-}
-
-fn number(n: u64) {
-    io::print_decimal(STDOUT_FILENO, n);
-}
+ghost use Rattle.try_meter.specs.Calls.{number8, afterAnalysis, afterMetering, filledBy, afterCall};
 
 // The name of a call, and the stream that it names.
-fn call(name: &[u8], stream: usize) {
-    text(name);
-    text(b" ");
-    number(stream as u64);
+fn print_call(name: &[u8], stream: usize) {
+    report::print_text(name);
+    report::print_spaced(stream as u64);
 }
 
-fn refused(n: u8) {
-    text(b"refused ");
-    number(n as u64);
-    text(b"\n");
+// The line's end after a call that answers a verdict, or that is refused.
+fn print_verdict(verdict: Verdict) {
+    report::print_text(b": ");
+    report::print_verdict(verdict);
+    report::print_text(b"\n");
 }
 
-fn verdict(given: Verdict) {
-    match given {
-        Verdict::Accepted => text(b"accepted\n"),
-        Verdict::Refused(n) => refused(n),
-    }
-}
-
-fn fresh() -> Meter
-    ensures { λ r. ⌜ Sound r ⌝ }
-{
-    meter::fresh()
-}
-
-fn analysis(m: Meter, stream: usize, name: &[u8], bytes: &[u8]) -> Meter
+fn analysis(m: Meter, stream: usize, title: &[u8], bytes: &[u8]) -> Meter
     requires { ⌜ Sound m ⌝ }
-    ensures { λ r. ⌜ Sound r ⌝ }
+    ensures { λ r. ⌜ (r ≡ afterAnalysis m stream (now (bytes .entry))) × Sound r ⌝ }
 {
     let changed = meter::analysis(m, stream, bytes);
     let given = changed.verdict;
     let after = changed.meter;
-    call(b"analysis", stream);
-    text(name);
-    text(b": ");
-    verdict(given);
+    print_call(b"analysis", stream);
+    report::print_text(title);
+    print_verdict(given);
     after
 }
 
 fn metering(m: Meter, stream: usize, volume: u64) -> Meter
     requires { ⌜ Sound m ⌝ }
-    ensures { λ r. ⌜ Sound r ⌝ }
+    ensures { λ r. ⌜ (r ≡ afterMetering m stream volume) × Sound r ⌝ }
 {
     let changed = meter::metering(m, stream, volume);
     let given = changed.verdict;
     let after = changed.meter;
-    call(b"metering", stream);
-    text(b" ");
-    number(volume);
-    text(b": ");
-    verdict(given);
+    print_call(b"metering", stream);
+    report::print_spaced(volume);
+    print_verdict(given);
     after
-}
-
-fn totals(m: Meter, stream: usize) {
-    call(b"totals", stream);
-    text(b": ");
-    match meter::totals(m, stream) {
-        TotalsAnswer::Accepted(t) => {
-            let energy = t.energy;
-            number(t.volume);
-            text(b" dm3, ");
-            number(energy.whole);
-            text(b" MJ ");
-            number(energy.rest);
-            text(b" mJ\n");
-        }
-        TotalsAnswer::Refused(n) => refused(n),
-    }
-}
-
-fn mean(m: Meter, stream: usize)
-    requires { ⌜ Sound m ⌝ }
-{
-    call(b"mean", stream);
-    text(b": ");
-    match meter::mean(m, stream) {
-        MeanAnswer::Accepted(h) => {
-            number(h.value());
-            text(b" J/m3\n");
-        }
-        MeanAnswer::Refused(n) => refused(n),
-    }
-}
-
-fn readings(m: Meter, stream: usize)
-    requires { ⌜ Sound m ⌝ }
-{
-    totals(m, stream);
-    mean(m, stream);
-}
-
-// Methane 1,000,000 at 15/15, the record of K2.
-fn k2(m: Meter, stream: usize) -> Meter
-    requires { ⌜ Sound m ⌝ }
-    ensures { λ r. ⌜ Sound r ⌝ }
-{
-    analysis(
-        m,
-        stream,
-        b" K2",
-        b"\x47\x43\x52\x01\x00\x0F\x0F\x01\x01\x40\x42\x0F\x00",
-    )
-}
-
-fn k9() {
-    let m0 = fresh();
-    let m1 = metering(m0, 0, 1000);
-    let m2 = k2(m1, 0);
-    let m3 = metering(m2, 0, 1000);
-    readings(m3, 0);
-}
-
-// 13 before the record's numbers, 15 and 18.
-fn no_such_stream() {
-    let m0 = fresh();
-    let m1 = analysis(m0, 16, b" no record", b"");
-    let m2 = metering(m1, 16, 10000001);
-    readings(m2, 18446744073709551615);
-}
-
-// 15 before 16; 16 before 17 cannot be met: a stream with no analysis has volume 0.
-fn volumes() {
-    let m0 = fresh();
-    let m1 = metering(m0, 15, 18446744073709551615);
-    let m2 = metering(m1, 15, 10000000);
-    let m3 = k2(m2, 15);
-    let m4 = metering(m3, 15, 10000001);
-    let m5 = metering(m4, 15, 0);
-    readings(m5, 15);
-    let m6 = metering(m5, 15, 10000000);
-    readings(m6, 15);
-    readings(m6, 14);
-}
-
-// A record's own number before 14; a refused analysis leaves the earlier one in force.
-fn pairs() {
-    let m0 = fresh();
-    let m1 = k2(m0, 3);
-    let m2 = analysis(
-        m1,
-        3,
-        b" 0/0",
-        b"\x47\x43\x52\x01\x00\x00\x00\x01\x01\x40\x42\x0F\x00",
-    );
-    let m3 = analysis(
-        m2,
-        3,
-        b" 0/0, methane 999,899",
-        b"\x47\x43\x52\x01\x00\x00\x00\x01\x01\xDB\x41\x0F\x00",
-    );
-    let m4 = analysis(
-        m3,
-        4,
-        b" 0/0",
-        b"\x47\x43\x52\x01\x00\x00\x00\x01\x01\x40\x42\x0F\x00",
-    );
-    let m5 = metering(m4, 3, 27);
-    let m6 = metering(m5, 4, 27);
-    readings(m6, 3);
-    readings(m6, 4);
-}
-
-// Methane 700,000 and nitrogen 300,000 after methane alone; each volume is taken at the analysis in force.
-fn two_gases() {
-    let m0 = fresh();
-    let m1 = k2(m0, 7);
-    let m2 = metering(m1, 7, 26);
-    readings(m2, 7);
-    let m3 = analysis(
-        m2,
-        7,
-        b" nitrogen 300,000",
-        b"\x47\x43\x52\x01\x00\x0F\x0F\x02\x01\x60\xAE\x0A\x00\x34\xE0\x93\x04\x00",
-    );
-    let m4 = metering(m3, 7, 1);
-    readings(m4, 7);
 }
 
 // A stream takes 99,999 times 10,000,000 dm³.
 fn fill(m: Meter, stream: usize) -> Meter
     requires { ⌜ Sound m ⌝ }
-    ensures { λ r. ⌜ Sound r ⌝ }
+    ensures { λ r. ⌜ (r ≡ filledBy 99999 m stream) × Sound r ⌝ }
 {
     let mut filled = m;
     let mut i: u64 = 0;
@@ -210,25 +71,112 @@ fn fill(m: Meter, stream: usize) -> Meter
     filled
 }
 
-// The greatest total, and one dm³ more; 15 before 17.
-fn full_stream() {
-    let m0 = fresh();
-    let m1 = k2(m0, 9);
-    let m2 = fill(m1, 9);
-    readings(m2, 9);
-    let m3 = metering(m2, 9, 10000000);
-    let m4 = metering(m3, 9, 9999999);
-    let m5 = metering(m4, 9, 1);
-    let m6 = metering(m5, 9, 10000001);
-    let m7 = metering(m6, 9, 0);
-    readings(m7, 9);
+fn print_totals(m: Meter, stream: usize) {
+    print_call(b"totals", stream);
+    match meter::totals(m, stream) {
+        TotalsAnswer::Accepted(t) => {
+            let energy = t.energy;
+            report::print_text(b":");
+            report::print_spaced(t.volume);
+            report::print_text(b" dm3,");
+            report::print_spaced(energy.whole);
+            report::print_text(b" MJ");
+            report::print_spaced(energy.rest);
+            report::print_text(b" mJ\n");
+        }
+        TotalsAnswer::Refused(n) => print_verdict(Verdict::Refused(n)),
+    }
+}
+
+fn print_mean(m: Meter, stream: usize)
+    requires { ⌜ Sound m ⌝ }
+{
+    print_call(b"mean", stream);
+    match meter::mean(m, stream) {
+        MeanAnswer::Accepted(h) => {
+            report::print_text(b":");
+            report::print_spaced(h.value());
+            report::print_text(b" J/m3\n");
+        }
+        MeanAnswer::Refused(n) => print_verdict(Verdict::Refused(n)),
+    }
+}
+
+// Makes a call of the input, and gives the meter after it.
+fn called(m: Meter, kind: u8, stream: usize, volume: u64, title: &[u8], bytes: &[u8]) -> Meter
+    requires { ⌜ Sound m ⌝ }
+    ensures { λ r. ⌜ (r ≡ afterCall m kind stream volume (now (bytes .entry))) × Sound r ⌝ }
+{
+    if kind == b'n' {
+        return meter::fresh();
+    }
+    if kind == b'a' {
+        return analysis(m, stream, title, bytes);
+    }
+    if kind == b'm' {
+        return metering(m, stream, volume);
+    }
+    if kind == b'f' {
+        return fill(m, stream);
+    }
+    print_totals(m, stream);
+    print_mean(m, stream);
+    m
+}
+
+fn wide(byte: u8) -> u32
+    ensures { λ r. ⌜ (r ≡ byte) × (r < 256) ⌝ }
+{
+    byte as u32
+}
+
+// The 4-byte and the 8-byte number at an offset.
+fn number_4(bytes: &[u8], at: usize) -> u32
+    requires { ⌜ at + 4 ≤ length (now bytes) ⌝ }
+    ensures { λ r. ⌜ r ≡ number4 (now (bytes .entry)) at ⌝ }
+{
+    wide(bytes[at])
+        + 256 * wide(bytes[at + 1])
+        + 65536 * wide(bytes[at + 2])
+        + 16777216 * wide(bytes[at + 3])
+}
+
+fn number_8(bytes: &[u8], at: usize) -> u64
+    requires { ⌜ at + 8 ≤ length (now bytes) ⌝ }
+    ensures { λ r. ⌜ r ≡ number8 (now (bytes .entry)) at ⌝ }
+{
+    number_4(bytes, at) as u64 + 4294967296 * (number_4(bytes, at + 4) as u64)
+}
+
+// Every call of the input, up to one that it does not hold whole.
+fn calls(input: &[u8])
+    requires { ⌜ length (now input) ≤ 2048 ⌝ }
+{
+    let mut m = meter::fresh();
+    let mut at = 0;
+    while at + 19 <= input.len() {
+        let title = at + 19;
+        let record = title + wide(input[at + 1]) as usize;
+        let end = record + wide(input[at + 2]) as usize;
+        if input.len() < end {
+            return;
+        }
+        let stream = number_8(input, at + 3) as usize;
+        let volume = number_8(input, at + 11);
+        m = called(
+            m,
+            input[at],
+            stream,
+            volume,
+            &input[title..record],
+            &input[record..end],
+        );
+        at = end;
+    }
 }
 
 fn main() {
-    k9();
-    no_such_stream();
-    volumes();
-    pairs();
-    two_gases();
-    full_stream();
+    let mut space = [0u8; 2048];
+    let n = io::read_full(STDIN_FILENO, &mut space);
+    calls(&space[..n]);
 }

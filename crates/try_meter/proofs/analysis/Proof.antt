@@ -1,4 +1,4 @@
--- The call leaves a sound meter.
+-- The call's contract gives the meter, and a sound one stays sound.
 use Rattle.meter.proofs.Kept.{analysis-keeps}
 use borrow.Author.Needs.{needs}
 use Rattle.try_meter.proofs.analysis.Statement.{statement}
@@ -7,39 +7,34 @@ use Rattle.try_meter.proofs.analysis.Tie as tie
 analysis-requires : tie.Need-analysis-requires
 analysis-requires c κs = search needs
 
-slice-aggregate-call : tie.Need-slice-aggregate-call
-slice-aggregate-call c = search needs
+slice-aggregate-print-call : tie.Need-slice-aggregate-print-call
+slice-aggregate-print-call c = search needs
 
-call-requires : tie.Need-call-requires
-call-requires c κs = search needs
+print-call-requires : tie.Need-print-call-requires
+print-call-requires c κs = search needs
 
-text-requires : tie.Need-text-requires
-text-requires c κs = search needs
+print-text-requires : tie.Need-print-text-requires
+print-text-requires c κs = search needs
 
-slice-aggregate-text : tie.Need-slice-aggregate-text
-slice-aggregate-text c = search needs
-
-text-requires-2 : tie.Need-text-requires-2
-text-requires-2 c κs = search needs
-
-verdict-requires : tie.Need-verdict-requires
-verdict-requires c κs = search needs
+print-verdict-requires : tie.Need-print-verdict-requires
+print-verdict-requires c κs = search needs
 
 returns : tie.Need-returns
 returns c =
-    let d = c .before .before .before .before .before .before .before in
-    let a = d .before .before .before .args in
-    analysis-keeps (a .m) (a .stream) (a .bytes .now) _ _ (d .analysis .ensures) (d .before .before .before .pre)
+    let d = c .before .before .before .before .before in
+    let s = d .before .before .before in
+    let a = s .args in (
+      d .analysis .ensures .stands,
+      analysis-keeps (a .m) (a .stream) (a .bytes .now) _ _ (d .analysis .ensures) (s .pre),
+    )
 
 pub analysis-spec : {M : Type 1} → statement M
 analysis-spec =
     tie.close
     (tie.spec
     analysis-requires
-    slice-aggregate-call
-    call-requires
-    text-requires
-    slice-aggregate-text
-    text-requires-2
-    verdict-requires
+    slice-aggregate-print-call
+    print-call-requires
+    print-text-requires
+    print-verdict-requires
     returns)

@@ -1,4 +1,4 @@
--- The call leaves a sound meter.
+-- The call's contract gives the meter, and a sound one stays sound.
 use Rattle.meter.proofs.Kept.{metering-keeps}
 use borrow.Author.Needs.{needs}
 use Rattle.try_meter.proofs.metering.Statement.{statement}
@@ -7,47 +7,34 @@ use Rattle.try_meter.proofs.metering.Tie as tie
 metering-requires : tie.Need-metering-requires
 metering-requires c κs = search needs
 
-slice-aggregate-call : tie.Need-slice-aggregate-call
-slice-aggregate-call c = search needs
+slice-aggregate-print-call : tie.Need-slice-aggregate-print-call
+slice-aggregate-print-call c = search needs
 
-call-requires : tie.Need-call-requires
-call-requires c κs = search needs
+print-call-requires : tie.Need-print-call-requires
+print-call-requires c κs = search needs
 
-slice-aggregate-text : tie.Need-slice-aggregate-text
-slice-aggregate-text c = search needs
+print-spaced-requires : tie.Need-print-spaced-requires
+print-spaced-requires c κs = search needs
 
-text-requires : tie.Need-text-requires
-text-requires c κs = search needs
-
-number-requires : tie.Need-number-requires
-number-requires c κs = search needs
-
-slice-aggregate-text-2 : tie.Need-slice-aggregate-text-2
-slice-aggregate-text-2 c = search needs
-
-text-requires-2 : tie.Need-text-requires-2
-text-requires-2 c κs = search needs
-
-verdict-requires : tie.Need-verdict-requires
-verdict-requires c κs = search needs
+print-verdict-requires : tie.Need-print-verdict-requires
+print-verdict-requires c κs = search needs
 
 returns : tie.Need-returns
 returns c =
-    let d = c .before .before .before .before .before .before .before .before .before in
-    let a = d .before .args in
-    metering-keeps (a .m) (a .stream) (a .volume) _ _ (d .metering .ensures) (d .before .pre)
+    let d = c .before .before .before .before .before in
+    let s = d .before in
+    let a = s .args in (
+      d .metering .ensures .stands,
+      metering-keeps (a .m) (a .stream) (a .volume) _ _ (d .metering .ensures) (s .pre),
+    )
 
 pub metering-spec : {M : Type 1} → statement M
 metering-spec =
     tie.close
     (tie.spec
     metering-requires
-    slice-aggregate-call
-    call-requires
-    slice-aggregate-text
-    text-requires
-    number-requires
-    slice-aggregate-text-2
-    text-requires-2
-    verdict-requires
+    slice-aggregate-print-call
+    print-call-requires
+    print-spaced-requires
+    print-verdict-requires
     returns)

@@ -11,11 +11,11 @@ slice-aggregate-write c = search needs
 write-requires : tie.Need-write-requires
 write-requires c κs = search needs
 
-slice-aggregate-write-all : tie.Need-slice-aggregate-write-all
-slice-aggregate-write-all c = search needs
+slice-aggregate-print-text : tie.Need-slice-aggregate-print-text
+slice-aggregate-print-text c = search needs
 
-write-all-requires : tie.Need-write-all-requires
-write-all-requires c κs = search needs
+print-text-requires : tie.Need-print-text-requires
+print-text-requires c κs = search needs
 
 print-verdict-requires : tie.Need-print-verdict-requires
 print-verdict-requires c κs = search needs
@@ -26,14 +26,14 @@ slice-aggregate-untouched c = search needs
 untouched-requires : tie.Need-untouched-requires
 untouched-requires c κs = search needs
 
-print-number-requires : tie.Need-print-number-requires
-print-number-requires c κs = search needs
+print-spaced-requires : tie.Need-print-spaced-requires
+print-spaced-requires c κs = search needs
 
-slice-aggregate-write-all-2 : tie.Need-slice-aggregate-write-all-2
-slice-aggregate-write-all-2 c = search needs
+slice-aggregate-print-text-2 : tie.Need-slice-aggregate-print-text-2
+slice-aggregate-print-text-2 c = search needs
 
-write-all-requires-2 : tie.Need-write-all-requires-2
-write-all-requires-2 c κs = search needs
+print-text-requires-2 : tie.Need-print-text-requires-2
+print-text-requires-2 c κs = search needs
 
 mul-out : tie.Need-mul-out
 mul-out c = search needs
@@ -50,8 +50,11 @@ slice-aggregate-print-reading c = sym (length-take-le _ _ (search needs))
 print-reading-requires : tie.Need-print-reading-requires
 print-reading-requires c κs = search needs
 
-end-line-requires : tie.Need-end-line-requires
-end-line-requires c κs = search needs
+slice-aggregate-print-text-3 : tie.Need-slice-aggregate-print-text-3
+slice-aggregate-print-text-3 c = search needs
+
+print-text-requires-3 : tie.Need-print-text-requires-3
+print-text-requires-3 c κs = search needs
 
 returns : tie.Need-returns
 returns c = search needs
@@ -62,18 +65,19 @@ gas-spec =
     (tie.spec
     slice-aggregate-write
     write-requires
-    slice-aggregate-write-all
-    write-all-requires
+    slice-aggregate-print-text
+    print-text-requires
     print-verdict-requires
     slice-aggregate-untouched
     untouched-requires
-    print-number-requires
-    slice-aggregate-write-all-2
-    write-all-requires-2
+    print-spaced-requires
+    slice-aggregate-print-text-2
+    print-text-requires-2
     mul-out
     add-out
     array-share-prefix-out
     slice-aggregate-print-reading
     print-reading-requires
-    end-line-requires
+    slice-aggregate-print-text-3
+    print-text-requires-3
     returns)

@@ -16,17 +16,17 @@ read-requires c κs = search needs
 print-verdict-requires : tie.Need-print-verdict-requires Inv-loop μ-loop
 print-verdict-requires c κs = search needs
 
-cast-print-number : tie.Need-cast-print-number Inv-loop μ-loop
-cast-print-number c = search needs
+cast-print-spaced : tie.Need-cast-print-spaced Inv-loop μ-loop
+cast-print-spaced c = search needs
 
-print-number-requires : tie.Need-print-number-requires Inv-loop μ-loop
-print-number-requires c κs = search needs
+print-spaced-requires : tie.Need-print-spaced-requires Inv-loop μ-loop
+print-spaced-requires c κs = search needs
 
-cast-print-number-2 : tie.Need-cast-print-number-2 Inv-loop μ-loop
-cast-print-number-2 c = search needs
+cast-print-spaced-2 : tie.Need-cast-print-spaced-2 Inv-loop μ-loop
+cast-print-spaced-2 c = search needs
 
-print-number-requires-2 : tie.Need-print-number-requires-2 Inv-loop μ-loop
-print-number-requires-2 c κs = search needs
+print-spaced-requires-2 : tie.Need-print-spaced-requires-2 Inv-loop μ-loop
+print-spaced-requires-2 c κs = search needs
 
 loop-holds : tie.Need-loop-holds Inv-loop μ-loop
 loop-holds c = search needs
@@ -63,10 +63,10 @@ print-reading-spec =
     μ-loop
     read-requires
     print-verdict-requires
-    cast-print-number
-    print-number-requires
-    cast-print-number-2
-    print-number-requires-2
+    cast-print-spaced
+    print-spaced-requires
+    cast-print-spaced-2
+    print-spaced-requires-2
     loop-holds
     array-read-print-entry
     mul-print-entry
