@@ -1,21 +1,17 @@
 -- The gas of annex D: its composition, its sums, and bounds of its parts, each computed.
 use mathlib.Core.Path.{_≡_, refl}
-use mathlib.Core.List.{List, []}
 use Prim.Native.Nat.{ℕ, zero, suc, _+_, _*_, _≤_, _<_}
 use native.Mathlib.Numerals.{add-one}
 use native.Mathlib.Omega.{arith}
 use lib.Dec.{leb, leb→le}
 use lib.IntN.{natAbs}
-use lib.ListN.{getD}
 use Rattle.rounding.specs.Near.{near}
 use Rattle.components.specs.Table.{componentTable, molarMass, summation, superior}
 use Rattle.components.specs.Composition.{Composition, total, sumOf, overLines, fractionFor}
 use Rattle.components.proofs.Every.{at}
 use Rattle.properties.specs.Chain.{HmSuperior, M, S, D, T}
 use Rattle.printed_tables.specs.declared.gas.Sums.{Sums}
-use Rattle.printed_tables.specs.declared.figures.Counts.{Counts}
-use Rattle.printed_tables.specs.Counts.{allCounted}
-use Rattle.printed_tables.specs.AnnexD.{rowFigures, rowsCounted, idealH, idealD}
+use Rattle.printed_tables.specs.AnnexD.{idealH, idealD}
 use Rattle.printed_tables.specs.Gas.{gas, lineAt, fractionAt, massPart, volumePart, sumTo, sumsOf}
 
 pub line-in : (k : ℕ) → k < 8 → (1 ≤ lineAt k) × (lineAt k ≤ 55)
@@ -72,15 +68,10 @@ pub ideal-d : idealD ≡ 60346259
 unfolding idealD M overLines fractionFor componentTable near
 ideal-d = refl
 
--- one part more, and one row more
+-- one part more
 pub sum-step : (n : ℕ) (f : ℕ → ℕ) → sumTo (n + 1) f ≡ sumTo n f + f n
 unfolding sumTo
 sum-step n f = rw add-one
-
-pub rows-step : (ps : List (List ℕ)) (n : ℕ) (c : Counts)
-    → rowsCounted ps (n + 1) c ≡ allCounted (rowsCounted ps n c) (rowFigures (lineAt n) (fractionAt n) (getD ps n []))
-unfolding rowsCounted
-rows-step ps n c = rw add-one
 
 -- no part passes 10^14, and no sum of parts
 pub mass-part-high : (k : ℕ) → k < 8 → massPart k ≤ 100000000000000

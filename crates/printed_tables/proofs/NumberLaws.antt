@@ -1,9 +1,8 @@
--- Bounds of a line's numbers, and of what is made of them.
+-- Bounds of a line's numbers and of the scales.
 use mathlib.Core.Path.{_≡_}
 use mathlib.Core.Bool.{Bool, true, false, cond, _&&_, _||_}
-use mathlib.Core.List.{List, []}
-use Prim.Native.Nat.{ℕ, _+_, _*_, _-_, _≤_, _<_}
-use native.Mathlib.Numerals.{add-one}
+use mathlib.Core.List.{[]}
+use Prim.Native.Nat.{ℕ, _*_, _-_, _≤_, _<_}
 use native.Mathlib.Nat.{mul-le-mul}
 use native.Mathlib.Omega.{arith}
 use lib.Dec.{leb, leb→le, eqb}
@@ -14,7 +13,6 @@ use mir.Val.{Fits}
 use Rattle.components.specs.Table.{componentTable, molarMass}
 use Rattle.components.proofs.Every.{at}
 use Rattle.components.proofs.Entries.{entry-below}
-use Rattle.printed_tables.specs.Counts.{counted, countsOf}
 use Rattle.printed_tables.specs.Figures.{numberOf, scaleOf, columnsOf}
 use Rattle.printed_tables.specs.AnnexD.{massScale}
 
@@ -48,8 +46,3 @@ mass-scale-range l =
 
 pub some-columns : (t : ℕ) → 0 < columnsOf t
 some-columns t = either (λ (n : ℕ). 0 < n) (eqb t 4) {x = 8} {y = 12} (omega arith) (omega arith)
-
--- one figure more
-pub counts-step : (ps : List ℕ) (f : ℕ → ℕ) (n : ℕ) → countsOf ps f (n + 1) ≡ counted (countsOf ps f n) (getD ps n 0) (f n)
-unfolding countsOf
-counts-step ps f n = rw add-one

@@ -1,6 +1,6 @@
 -- The figures of annex D: the lines of table D.1 and its last row, and the text from D.1 to D.4.3.
 use mathlib.Core.Bool.{cond}
-use mathlib.Core.List.{List, [], _∷_}
+use mathlib.Core.List.{List, [], _∷_, _++_}
 use Prim.Native.Nat.{ℕ, zero, suc, _*_, _^_}
 use lib.Dec.{eqb}
 use lib.ListN.{getD}
@@ -13,7 +13,7 @@ use Rattle.printed_tables.specs.Figures.{numberOf}
 use Rattle.printed_tables.specs.Gas.{gas, lineAt, fractionAt, sumsOf}
 
 -- a figure as its printed digits, without the decimal sign, beside the calculated ones: n, of which q make one in the last digit
-abbrev pub figure : ℕ → ℕ → ℕ → ℕ × ℕ
+abbrev figure : ℕ → ℕ → ℕ → ℕ × ℕ
 figure printed n q = (printed, near n q)
 
 -- molar masses have three decimals, and nitrogen's four
@@ -38,21 +38,22 @@ rowsCounted printed (suc n) c =
     allCounted (rowsCounted printed n c) (rowFigures (lineAt n) (fractionAt n) (getD printed n []))
 
 -- the last row of table D.1: x, x M, x H and x s
-abbrev pub totals : List (ℕ × ℕ)
+abbrev totals : List (ℕ × ℕ)
 totals =
-    figure 10000 (sumsOf .parts .x) (10 ^ 2)
+    figure 10000 (sumsOf .x) (10 ^ 2)
     ∷ figure 17478 (sumsOf .m) (10 ^ 7)
     ∷ figure 91909 (sumsOf .h) (10 ^ 7)
     ∷ figure 4785 (sumsOf .s) (10 ^ 5)
     ∷ []
 
--- D.1 and D.2: per mole, and per kilogram to three and two decimals, 10 h / m in MJ/kg
+-- then D.1 and D.2: per mole, and per kilogram to three and two decimals, 10 h / m in MJ/kg
 abbrev pub energy : List (ℕ × ℕ)
 energy =
-    figure 91909 (sumsOf .h) (10 ^ 7)
+    totals
+    ++ figure 91909 (sumsOf .h) (10 ^ 7)
     ∷ figure 52586 (10 ^ 4 * sumsOf .h) (sumsOf .m)
     ∷ figure 5259 (10 ^ 4 * sumsOf .h) (10 * sumsOf .m)
-    ∷ figure 5259 (sumsOf .parts .mass) (10 ^ 10)
+    ∷ figure 5259 (sumsOf .mass) (10 ^ 10)
     ∷ []
 
 -- the ideal values; the ideal relative density has 1 for the compression factor of air
@@ -73,7 +74,7 @@ abbrev pub volume : Six → List (ℕ × ℕ)
 volume p =
     figure 38870 idealH (10 ^ 3)
     ∷ figure 3887 idealH (10 ^ 4)
-    ∷ figure 3887 (sumsOf .parts .volume) (10 ^ 10)
+    ∷ figure 3887 (sumsOf .volume) (10 ^ 10)
     ∷ figure 4785 (sumsOf .s) (10 ^ 5)
     ∷ figure 99771 (p .Z) (10 ^ 4)
     ∷ figure 9977 (p .Z) (10 ^ 5)

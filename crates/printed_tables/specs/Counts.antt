@@ -13,7 +13,7 @@ abbrev pub none : Counts
 none = record { equal = 0; «one_off» = 0; otherwise = 0 }
 
 -- one more where a test holds; a count is kept in 32 bits
-abbrev pub more : ℕ → Bool → ℕ
+abbrev more : ℕ → Bool → ℕ
 more n test = (n + cond test 1 0) % 2 ^ 32
 
 -- the counts with one figure more, as printed and as calculated

@@ -1,5 +1,4 @@
 -- The gas of annex D at 15/15: its sums, and formulas (7) and (9) of source document 002.
-use mathlib.Core.List.{List}
 use Prim.Native.Nat.{ℕ, zero, suc, _+_, _*_, _^_}
 use lib.IntN.{natAbs}
 use lib.ListN.{getD}
@@ -8,7 +7,6 @@ use Rattle.components.specs.Table.{molarMass, superior}
 use Rattle.records.specs.Format.{Contents}
 use Rattle.records.specs.Cases.{annexD}
 use Rattle.properties.specs.Chain.{HmSuperior, M, S, D, idealCalorific}
-use Rattle.printed_tables.specs.declared.gas.Parts.{Parts}
 use Rattle.printed_tables.specs.declared.gas.Sums.{Sums}
 use Rattle.printed_tables.specs.Figures.{numberOf}
 
@@ -37,8 +35,14 @@ unfoldable pub sumTo : ℕ → (ℕ → ℕ) → ℕ
 sumTo zero f = 0
 sumTo (suc n) f = sumTo n f + f n
 
-abbrev pub partsOf : ℕ → Parts
-partsOf n = record { x = sumTo n fractionAt; mass = sumTo n massPart; volume = sumTo n volumePart }
-
+-- the sums of x H, x M, x s and x, and formulas (7) and (9)
 abbrev pub sumsOf : Sums
-sumsOf = record { h = HmSuperior gas; m = M gas; s = natAbs (S gas); parts = partsOf 8 }
+sumsOf =
+    record {
+      h = HmSuperior gas;
+      m = M gas;
+      s = natAbs (S gas);
+      x = sumTo 8 fractionAt;
+      mass = sumTo 8 massPart;
+      volume = sumTo 8 volumePart;
+    }

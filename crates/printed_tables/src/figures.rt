@@ -5,8 +5,6 @@ ghost use Rattle.rounding.specs.Near.{near};
 ghost use Rattle.printed_tables.specs.Counts.{distance, none, counted};
 use super::places;
 use super::places::Place;
-use super::places::put;
-use super::places::put_number;
 
 // How many figures are equal, one off in the last printed digit, and neither. A count stays far below 2^32.
 pub struct Counts {
@@ -39,14 +37,14 @@ impl Counts {
     }
 
     pub fn print(self) {
-        put_number(self.equal as u64 + self.one_off as u64 + self.otherwise as u64);
-        put(b" figures, ");
-        put_number(self.equal as u64);
-        put(b" equal, ");
-        put_number(self.one_off as u64);
-        put(b" one off, ");
-        put_number(self.otherwise as u64);
-        put(b" otherwise\n");
+        places::put_number(self.equal as u64 + self.one_off as u64 + self.otherwise as u64);
+        places::put(b" figures, ");
+        places::put_number(self.equal as u64);
+        places::put(b" equal, ");
+        places::put_number(self.one_off as u64);
+        places::put(b" one off, ");
+        places::put_number(self.otherwise as u64);
+        places::put(b" otherwise\n");
     }
 }
 
@@ -63,11 +61,11 @@ fn distance(a: u64, b: u64) -> u64
 fn print_figure(digits: u64, scale: u64)
     requires { ⌜ 0 < scale ⌝ }
 {
-    put_number(digits / scale);
-    put(b".");
+    places::put_number(digits / scale);
+    places::put(b".");
     let mut place = scale / 10;
     while place > 0 {
-        put_number(digits / place % 10);
+        places::put_number(digits / place % 10);
         place = place / 10;
     }
 }
@@ -80,42 +78,26 @@ fn report(place: Place, name: &[u8], printed: u64, scale: u64, calculated: u64)
         return;
     }
     places::print_place(place, name);
-    put(b": printed ");
+    places::put(b": printed ");
     print_figure(printed, scale);
-    put(b", calculated ");
+    places::put(b", calculated ");
     print_figure(calculated, scale);
-    put(b"\n");
+    places::put(b"\n");
 }
 
 // The counts with one figure more, which is reported: its digits as printed and as calculated.
-pub fn compare(
-    counts: Counts,
-    place: Place,
-    name: &[u8],
-    printed: u64,
-    scale: u64,
-    calculated: u64,
-) -> Counts
+pub fn compare(c: Counts, at: Place, name: &[u8], printed: u64, scale: u64, result: u64) -> Counts
     requires { ⌜ 0 < scale ⌝ }
-    ensures { λ r. ⌜ r ≡ counted counts printed calculated ⌝ }
+    ensures { λ r. ⌜ r ≡ counted c printed result ⌝ }
 {
-    report(place, name, printed, scale, calculated);
-    counts.with(printed, calculated)
+    report(at, name, printed, scale, result);
+    c.with(printed, result)
 }
 
-// The same for a value of which `step` make one in the last printed digit.
-pub fn figure(
-    counts: Counts,
-    place: Place,
-    name: &[u8],
-    printed: u64,
-    scale: u64,
-    value: u64,
-    step: u64,
-) -> Counts
-    requires { ⌜ (0 < scale) × (0 < step) ⌝ }
-    ensures { λ r. ⌜ r ≡ counted counts printed (near value step) ⌝ }
+// The same for n, of which q make one in the last printed digit.
+pub fn figure(c: Counts, at: Place, name: &[u8], printed: u64, scale: u64, n: u64, q: u64) -> Counts
+    requires { ⌜ (0 < scale) × (0 < q) ⌝ }
+    ensures { λ r. ⌜ r ≡ counted c printed (near n q) ⌝ }
 {
-    let calculated = rounding::nearest(value, step);
-    compare(counts, place, name, printed, scale, calculated)
+    compare(c, at, name, printed, scale, rounding::nearest(n, q))
 }

@@ -13,7 +13,7 @@ mod tables;
 
 fn main() {
     let table = components::component_table();
-    tables::print_comparison(5, &table, &table_5::FIGURES);
-    tables::print_comparison(4, &table, &table_4::FIGURES);
+    tables::print_comparison(5, &table, &table_5::FIGURES, 12);
+    tables::print_comparison(4, &table, &table_4::FIGURES, 8);
     annex_d::print_comparison(&table);
 }

@@ -6,10 +6,7 @@ ghost use Rattle.printed_tables.specs.Counts.{allCounted};
 ghost use Rattle.printed_tables.specs.AnnexD.{massScale, rowFigures, rowsCounted};
 use super::figures::Counts;
 use super::figures::figure;
-use super::numbers::H_15;
-use super::numbers::M;
-use super::numbers::S_15;
-use super::numbers::number;
+use super::numbers;
 use super::places::Place;
 
 pub const LINES: [u8; 8] = [1, 2, 3, 4, 5, 6, 52, 54];
@@ -42,11 +39,11 @@ fn row(before: Counts, table: &[[i32; 12]; 55], line: u8, x: u32, printed: [u64;
     requires { ⌜ (1 ≤ line) × (line ≤ 55) × (x ≤ 1000000) ⌝ }
     ensures { λ r. ⌜ r ≡ allCounted before (rowFigures line x printed) ⌝ }
 {
-    let place = Place::TableD1 { line };
+    let place = Place::TableD1(line);
     let scale = mass_scale(line);
-    let m = number(table, line, M);
-    let h = number(table, line, H_15);
-    let s = number(table, line, S_15);
+    let m = numbers::number(table, line, numbers::M);
+    let h = numbers::number(table, line, numbers::H_15);
+    let s = numbers::number(table, line, numbers::S_15);
     let x = x as u64;
     let c = figure(before, place, b"M", printed[0], scale, scale * m, 10000);
     let c = figure(c, place, b"H", printed[1], 100, h, 10);

@@ -6,28 +6,14 @@ ghost use Rattle.components.specs.Table.{componentTable};
 ghost use Rattle.printed_tables.specs.Counts.{countsOf};
 ghost use Rattle.printed_tables.specs.Figures.{columnsOf, scaleOf, perKilogram, perCubicMetre, figureOf, figureAt};
 use super::figures;
-use super::figures::Counts;
-use super::numbers::H_25;
-use super::numbers::M;
-use super::numbers::number;
+use super::numbers;
 use super::places;
-use super::places::Place;
-use super::places::put;
 use properties::steps;
 
 // The conditions of table 5, 15/15, 0/0, 15/0, 25/0, 20/20 and 25/20: the column of superior h, and the metering temperature, °C.
 const SUPERIOR: [usize; 6] = [8, 10, 8, 4, 6, 4];
 
 const METERING: [u8; 6] = [15, 0, 0, 0, 20, 20];
-
-fn columns(number: u8) -> usize
-    ensures { λ r. ⌜ r ≡ columnsOf number ⌝ }
-{
-    if number == 4 {
-        return 8;
-    }
-    12
-}
 
 // Three decimals for methane and, in table 5, hydrogen; two for the other lines.
 fn scale(number: u8, line: u8) -> u64
@@ -45,8 +31,9 @@ fn per_kilogram(table: &[[i32; 12]; 55], line: u8, column: usize) -> u64
     requires { ⌜ (1 ≤ line) × (line ≤ 55) × (column < 8) ⌝ }
     ensures { λ r. ⌜ r ≡ perKilogram line column ⌝ }
 {
-    let h = number(table, line, H_25 + column);
-    rounding::nearest(10 * h * scale(4, line), number(table, line, M))
+    let h = numbers::number(table, line, numbers::H_25 + column);
+    let m = numbers::number(table, line, numbers::M);
+    rounding::nearest(10 * h * scale(4, line), m)
 }
 
 fn per_cubic_metre(table: &[[i32; 12]; 55], line: u8, column: usize) -> u64
@@ -54,7 +41,7 @@ fn per_cubic_metre(table: &[[i32; 12]; 55], line: u8, column: usize) -> u64
     requires { ⌜ (1 ≤ line) × (line ≤ 55) × (column < 12) ⌝ }
     ensures { λ r. ⌜ r ≡ perCubicMetre line column ⌝ }
 {
-    let h = number(table, line, SUPERIOR[column / 2] + column % 2);
+    let h = numbers::number(table, line, SUPERIOR[column / 2] + column % 2);
     let divisor = steps::divisor(METERING[column / 2]);
     let value = steps::ideal_calorific_value(1000000 * h, divisor);
     rounding::nearest(value * scale(5, line), 1000000)
@@ -72,22 +59,17 @@ fn calculated(number: u8, table: &[[i32; 12]; 55], line: u8, column: usize) -> u
 }
 
 // All figures of a table, which stand line after line.
-fn compare(number: u8, table: &[[i32; 12]; 55], figures: &[u32]) -> Counts
+fn compare(number: u8, table: &[[i32; 12]; 55], figures: &[u32], columns: usize) -> figures::Counts
     requires { ⌜ now table ≡ componentTable ⌝ }
-    requires { ⌜ length (now figures) ≡ 48 * columnsOf number ⌝ }
+    requires { ⌜ (columns ≡ columnsOf number) × (length (now figures) ≡ 48 * columns) ⌝ }
     ensures { λ r. ⌜ r ≡ countsOf (now (figures .entry)) (figureAt number) (length (now (figures .entry))) ⌝ }
 {
-    let columns = columns(number);
-    let mut counts = Counts::new();
+    let mut counts = figures::Counts::new();
     let mut i = 0;
     while i < figures.len() {
         let line = (i / columns) as u8 + 1;
         let column = i % columns;
-        let place = Place::Table {
-            number,
-            line,
-            column,
-        };
+        let place = places::Place::Table(number, line, column);
         let calculated = calculated(number, table, line, column);
         let scale = scale(number, line);
         counts = figures::compare(counts, place, b"", figures[i] as u64, scale, calculated);
@@ -96,15 +78,15 @@ fn compare(number: u8, table: &[[i32; 12]; 55], figures: &[u32]) -> Counts
     counts
 }
 
-pub fn print_comparison(number: u8, table: &[[i32; 12]; 55], figures: &[u32])
+pub fn print_comparison(number: u8, table: &[[i32; 12]; 55], figures: &[u32], columns: usize)
     requires { ⌜ now table ≡ componentTable ⌝ }
-    requires { ⌜ length (now figures) ≡ 48 * columnsOf number ⌝ }
+    requires { ⌜ (columns ≡ columnsOf number) × (length (now figures) ≡ 48 * columns) ⌝ }
 {
-    let counts = compare(number, table, figures);
+    let counts = compare(number, table, figures, columns);
     places::print_table(number);
-    put(b": ");
+    places::put(b": ");
     counts.print();
-    put(b"not compared: the names of ");
+    places::put(b"not compared: the names of ");
     places::print_table(number);
-    put(b"; it has no lines 49 to 55\n");
+    places::put(b"; it has no lines 49 to 55\n");
 }

@@ -1,10 +1,16 @@
 -- After i turns the counts are those of the first i rows.
 use mathlib.Core.Path.{_≡_, refl}
-use Prim.Native.Nat.{_-_, _≤_}
+use mathlib.Core.List.{List, []}
+use Prim.Native.Nat.{ℕ, _+_, _-_, _≤_}
+use native.Mathlib.Numerals.{add-one}
 use native.Mathlib.Omega.{arith}
 use borrow.Author.Needs.{needs}
-use Rattle.printed_tables.specs.AnnexD.{rowsCounted}
-use Rattle.printed_tables.proofs.GasLaws.{line-in, fraction-high, rows-step}
+use lib.ListN.{getD}
+use Rattle.printed_tables.specs.declared.figures.Counts.{Counts}
+use Rattle.printed_tables.specs.Counts.{allCounted}
+use Rattle.printed_tables.specs.AnnexD.{rowFigures, rowsCounted}
+use Rattle.printed_tables.specs.Gas.{lineAt, fractionAt}
+use Rattle.printed_tables.proofs.GasLaws.{line-in, fraction-high}
 use Rattle.printed_tables.proofs.table_d1.rows.Statement.{statement}
 use Rattle.printed_tables.proofs.table_d1.rows.Tie as tie
 
@@ -13,6 +19,12 @@ Inv-loop table printed counts₀ i₀ counts i = (i ≤ 8) × (counts ≡ rowsCo
 
 abbrev μ-loop : tie.MeasureT-loop
 μ-loop table printed counts₀ i₀ counts i = 8 - i
+
+-- one row more
+rows-step : (ps : List (List ℕ)) (n : ℕ) (c : Counts)
+    → rowsCounted ps (n + 1) c ≡ allCounted (rowsCounted ps n c) (rowFigures (lineAt n) (fractionAt n) (getD ps n []))
+unfolding rowsCounted
+rows-step ps n c = rw add-one
 
 loop-holds : tie.Need-loop-holds Inv-loop μ-loop
 unfolding rowsCounted

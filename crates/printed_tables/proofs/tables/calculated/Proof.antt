@@ -1,6 +1,5 @@
 -- Each return is one case of `figureOf`.
 use borrow.Author.Tests.{eq-eqb, ne-eqb}
-use borrow.Author.Needs.{needs}
 use Rattle.printed_tables.proofs.tables.calculated.Statement.{statement}
 use Rattle.printed_tables.proofs.tables.calculated.Tie as tie
 

@@ -1,13 +1,15 @@
 -- Each figure stands in one of the lines 1 to 48; after i turns the counts are those of the first i figures.
 use mathlib.Core.Path.{_≡_}
+use mathlib.Core.List.{List}
 use Prim.Native.Nat.{ℕ, _+_, _*_, _/_, _-_, _≤_, _<_}
+use native.Mathlib.Numerals.{add-one}
 use native.Mathlib.Nat.{div-lt-iff-lt-mul, mod-lt}
 use native.Mathlib.Omega.{arith}
 use borrow.Author.Needs.{needs}
-use lib.ListN.{length}
-use Rattle.printed_tables.specs.Counts.{countsOf}
+use lib.ListN.{length, getD}
+use Rattle.printed_tables.specs.Counts.{counted, countsOf}
 use Rattle.printed_tables.specs.Figures.{columnsOf, figureAt}
-use Rattle.printed_tables.proofs.NumberLaws.{scale-range, some-columns, counts-step}
+use Rattle.printed_tables.proofs.NumberLaws.{scale-range, some-columns}
 use Rattle.printed_tables.proofs.tables.compare.Statement.{statement}
 use Rattle.printed_tables.proofs.tables.compare.Tie as tie
 
@@ -17,25 +19,27 @@ Inv-loop number table figures columns counts₀ i₀ t12 counts i = (i ≤ lengt
 abbrev μ-loop : tie.MeasureT-loop
 μ-loop number table figures columns counts₀ i₀ t12 counts i = length figures - i
 
+-- one figure more
+counts-step : (ps : List ℕ) (f : ℕ → ℕ) (n : ℕ) → countsOf ps f (n + 1) ≡ counted (countsOf ps f n) (getD ps n 0) (f n)
+unfolding countsOf
+counts-step ps f n = rw add-one
+
 -- the line of a figure, counted from 0
 line-below : (i n columns : ℕ) → 0 < columns → n ≡ 48 * columns → i < n → i / columns < 48
 line-below i n columns h e l = div-lt-iff-lt-mul {k = columns} h .1 (omega (arith, e, l))
 
 module _ (c : tie.In-loop Inv-loop μ-loop) where
   abbrev start : tie.Start Inv-loop μ-loop
-  start = c .before .before .before .before .before
+  start = c .before .before .before .before
 
-  columns-are : c .before .before .before .columns .result ≡ columnsOf (start .args .number)
-  columns-are = c .before .before .before .columns .ensures
+  columns-are : start .args .columns ≡ columnsOf (start .args .number)
+  columns-are = start .pre .1 .0
 
-  some : 0 < c .before .before .before .columns .result
+  some : 0 < start .args .columns
   some = omega (arith, columns-are, some-columns (start .args .number))
 
-  below : c .before .loop .i / c .before .before .before .columns .result < 48
-  below = line-below (c .before .loop .i) (length (start .args .figures .now)) _ some (omega (arith, columns-are, start .pre .1)) (c .loop-test .taken)
-
-columns-requires : tie.Need-columns-requires Inv-loop μ-loop
-columns-requires c κs = search needs
+  below : c .before .loop .i / start .args .columns < 48
+  below = line-below (c .before .loop .i) (length (start .args .figures .now)) _ some (start .pre .1 .1) (c .loop-test .taken)
 
 new-requires : tie.Need-new-requires Inv-loop μ-loop
 new-requires c κs = search needs
@@ -75,7 +79,8 @@ cast-compare : tie.Need-cast-compare Inv-loop μ-loop
 cast-compare c = omega (arith, c .shared-slice-known2 .given (c .before .before .before .before .before .loop .i))
 
 compare-requires : tie.Need-compare-requires Inv-loop μ-loop
-compare-requires c κs = omega (arith, c .before .before .scale .ensures, scale-range (c .before .before .before .before .before .before .before .before .before .args .number) (c .before .before .before .before .before .loop .i / c .before .before .before .before .before .before .before .columns .result + 1) .0)
+compare-requires c κs =
+    omega (arith, c .before .before .scale .ensures, scale-range (c .before .before .before .before .before .before .before .before .args .number) (c .before .before .before .before .before .loop .i / c .before .before .before .before .before .before .before .before .args .columns + 1) .0)
 
 add-i : tie.Need-add-i Inv-loop μ-loop
 add-i c = search needs
@@ -84,10 +89,10 @@ loop-less : tie.Need-loop-less Inv-loop μ-loop
 loop-less c = search needs
 
 loop-again : tie.Need-loop-again Inv-loop μ-loop
-loop-again c = (omega arith, rw (counts-step _ _ _, c .compare .ensures, c .before .before .before .before .calculated .ensures, c .before .before .before .before .before .before .loop .inv .1, c .before .before .before .before .before .before .before .before .columns .ensures))
+loop-again c = (omega arith, rw (counts-step _ _ _, c .compare .ensures, c .before .before .before .before .calculated .ensures, c .before .before .before .before .before .before .loop .inv .1, c .before .before .before .before .before .before .before .before .before .pre .1 .0))
 
 returns : tie.Need-returns Inv-loop μ-loop
-returns c = let e : c .before .loop .i ≡ length (c .before .before .before .before .before .args .figures .now) = omega arith in rw (c .before .loop .inv .1, e)
+returns c = let e : c .before .loop .i ≡ length (c .before .before .before .before .args .figures .now) = omega arith in rw (c .before .loop .inv .1, e)
 
 pub compare-spec : {M : Type 1} → statement M
 compare-spec =
@@ -95,7 +100,6 @@ compare-spec =
     (tie.spec
     Inv-loop
     μ-loop
-    columns-requires
     new-requires
     loop-holds
     div-line
