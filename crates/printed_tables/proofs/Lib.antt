@@ -1,2 +1,2 @@
-pub mod OneLine
-pub mod ExampleGas
+pub mod NumberLaws
+pub mod GasLaws

@@ -1,200 +1,134 @@
 // The figures of annex D: table D.1, and the text from D.1 to D.4.3.
 ghost use mathlib.Core.Path.{_≡_};
-ghost use Prim.Native.Nat.{_≤_};
-ghost use lib.IntN.{natAbs};
+ghost use Prim.Native.Nat.{_*_, _≤_, _<_};
+ghost use Rattle.rounding.specs.Near.{near};
 ghost use Rattle.components.specs.Table.{componentTable};
-use super::example_gas;
+ghost use Rattle.properties.specs.Answers.{numbers};
+ghost use Rattle.printed_tables.specs.Counts.{counted, allCounted};
+ghost use Rattle.printed_tables.specs.Gas.{sumsOf};
+ghost use Rattle.printed_tables.specs.AnnexD.{energy, volume, density, index};
 use super::figures;
 use super::figures::Counts;
-use super::per_kilogram;
+use super::gas;
+use super::places;
 use super::table_d1;
-use components::Sums;
-use libc::STDOUT_FILENO;
 use properties::Answer;
 use properties::Properties;
+use properties::quantities::CalorificValue;
+use properties::quantities::RelativeDensity;
 use properties::steps;
 
-// D.1 and D.2: per mole and per kilogram.
-fn molar_and_mass(before: Counts, table: &[[i32; 12]; 55], sums: Sums) -> Counts
-    requires { ⌜ now table ≡ componentTable ⌝ }
-    requires { ⌜ (sums .superior ≤ 3900000000000) × (80000000000 ≤ sums .mass) ⌝ }
+fn text(c: Counts, name: &[u8], printed: u64, scale: u64, n: u64, q: u64) -> Counts
+    requires { ⌜ (0 < scale) × (0 < q) ⌝ }
+    ensures { λ r. ⌜ r ≡ counted c printed (near n q) ⌝ }
 {
-    let heat = rounding::nearest(sums.superior, 10000000);
-    let three = per_kilogram::digits(sums.superior, sums.mass, 1000);
-    let two = per_kilogram::digits(sums.superior, sums.mass, 100);
-    let counts = figures::figure(before, b"annex D, D.1, ideal H per mole", 91909, 100, heat);
-    let counts = figures::figure(
-        counts,
-        b"annex D, D.2, ideal H per kilogram",
+    figures::figure(c, places::Place::Text, name, printed, scale, n, q)
+}
+
+// A figure with the decimals of a scale, and with one fewer.
+fn twice(c: Counts, name: &[u8], long: u64, short: u64, scale: u64, n: u64, q: u64) -> Counts
+    requires { ⌜ (10 ≤ scale) × (0 < q) × (q ≤ 1000000000000) ⌝ }
+    ensures { λ r. ⌜ r ≡ counted (counted c long (near n q)) short (near n (10 * q)) ⌝ }
+{
+    let c = text(c, name, long, scale, n, q);
+    text(c, name, short, scale / 10, n, 10 * q)
+}
+
+// The last row of table D.1, and D.1 and D.2: per mole and per kilogram.
+fn energies(c: Counts, sums: gas::Sums) -> Counts
+    requires { ⌜ sums ≡ sumsOf ⌝ }
+    ensures { λ r. ⌜ r ≡ allCounted c energy ⌝ }
+{
+    let h = 10000 * sums.h;
+    let c = text(c, b"table D.1, total x", 10000, 10000, sums.x, 100);
+    let c = text(c, b"table D.1, total x M", 17478, 1000, sums.m, 10000000);
+    let c = text(c, b"table D.1, total x H", 91909, 100, sums.h, 10000000);
+    let c = text(c, b"table D.1, total x s", 4785, 100000, sums.s, 100000);
+    let c = text(c, b"D.1, ideal H per mole", 91909, 100, sums.h, 10000000);
+    let c = twice(
+        c,
+        b"D.2, ideal H per kilogram",
         52586,
-        1000,
-        three,
-    );
-    let counts = figures::figure(
-        counts,
-        b"annex D, D.2, ideal H per kilogram",
         5259,
-        100,
-        two,
+        1000,
+        h,
+        sums.m,
     );
-    let parts = rounding::nearest(example_gas::by_mass(table, sums.mass), 10000000000);
-    figures::figure(counts, b"annex D, D.2, by formula (7)", 5259, 100, parts)
-}
-
-// A value in J/m³ to three and to two decimals of MJ/m³.
-fn heats(before: Counts, place: &[u8], three: u64, two: u64, value: u64) -> Counts {
-    let counts = figures::figure(before, place, three, 1000, rounding::nearest(value, 1000));
-    figures::figure(counts, place, two, 100, rounding::nearest(value, 10000))
-}
-
-// A value in 10^-8 to five and to four decimals.
-fn densities(before: Counts, place: &[u8], five: u64, four: u64, value: u64) -> Counts {
-    let counts = figures::figure(before, place, five, 100000, rounding::nearest(value, 1000));
-    figures::figure(counts, place, four, 10000, rounding::nearest(value, 10000))
+    text(c, b"D.2, by formula (7)", 5259, 100, sums.mass, 10000000000)
 }
 
 // D.3: per cubic metre.
-fn volume(before: Counts, table: &[[i32; 12]; 55], sums: Sums, p: Properties) -> Counts
-    requires { ⌜ now table ≡ componentTable ⌝ }
-    requires { ⌜ (sums .superior ≤ 3900000000000) × (natAbs (sums .summation) ≤ 5250000000) ⌝ }
+fn volumes(c: Counts, sums: gas::Sums, p: Properties) -> Counts
+    requires { ⌜ sums ≡ sumsOf ⌝ }
+    ensures { λ r. ⌜ r ≡ allCounted c (volume (numbers p)) ⌝ }
 {
-    let ideal = example_gas::ideal_heat(sums);
-    let z = p.z.value();
-    let hs = p.hs.value();
-    let counts = heats(before, b"annex D, D.3, ideal H", 38870, 3887, ideal.value());
-    let parts = rounding::nearest(example_gas::by_volume(table), 10000000000);
-    let counts = figures::figure(counts, b"annex D, D.3, by formula (9)", 3887, 100, parts);
-    let counts = figures::figure(
-        counts,
-        b"annex D, D.3, sum of x s",
-        4785,
-        100000,
-        example_gas::factor(sums),
+    let ideal = steps::ideal_calorific_value(sums.h, steps::divisor(15));
+    let c = twice(c, b"D.3, ideal H", 38870, 3887, 1000, ideal, 1000);
+    let c = text(
+        c,
+        b"D.3, by formula (9)",
+        3887,
+        100,
+        sums.volume,
+        10000000000,
     );
-    let counts = figures::figure(
-        counts,
-        b"annex D, D.3, Z",
-        99771,
-        100000,
-        rounding::nearest(z, 10000),
-    );
-    let counts = figures::figure(
-        counts,
-        b"annex D, D.3, Z",
-        9977,
-        10000,
-        rounding::nearest(z, 100000),
-    );
-    heats(counts, b"annex D, D.3, H", 38959, 3896, hs)
+    let c = text(c, b"D.3, sum of x s", 4785, 100000, sums.s, 100000);
+    let c = twice(c, b"D.3, Z", 99771, 9977, 100000, p.z.value(), 10000);
+    twice(c, b"D.3, H", 38959, 3896, 1000, p.hs.value(), 1000)
 }
 
 // D.4.1 and D.4.2: relative density and density.
-fn density(before: Counts, sums: Sums, p: Properties) -> Counts
-    requires { ⌜ (80000000000 ≤ sums .mass) × (sums .mass ≤ 800000000000) ⌝ }
+fn densities(c: Counts, sums: gas::Sums, p: Properties) -> Counts
+    requires { ⌜ sums ≡ sumsOf ⌝ }
+    ensures { λ r. ⌜ r ≡ allCounted c (density (numbers p)) ⌝ }
 {
-    let relative = example_gas::ideal_relative(sums);
-    let absolute = steps::ideal_density(sums.mass, steps::divisor(15));
-    let d = p.d.value();
-    let rho = p.rho.value();
-    let counts = densities(
-        before,
-        b"annex D, D.4.1, ideal d",
-        60347,
-        6035,
-        relative.value(),
-    );
-    let counts = densities(counts, b"annex D, D.4.1, d", 60460, 6046, d);
-    let counts = densities(counts, b"annex D, D.4.2, ideal rho", 73918, 7392, absolute);
-    densities(counts, b"annex D, D.4.2, rho", 74088, 7409, rho)
+    let d = steps::ideal_relative_density(sums.m, 100000);
+    let rho = steps::ideal_density(sums.m, steps::divisor(15));
+    let c = twice(c, b"D.4.1, ideal d", 60347, 6035, 100000, d, 1000);
+    let c = twice(c, b"D.4.1, d", 60460, 6046, 100000, p.d.value(), 1000);
+    let c = twice(c, b"D.4.2, ideal rho", 73918, 7392, 100000, rho, 1000);
+    twice(c, b"D.4.2, rho", 74088, 7409, 100000, p.rho.value(), 1000)
 }
 
 // D.4.3: the Wobbe index.
-fn wobbe(before: Counts, sums: Sums, p: Properties) -> Counts
-    requires { ⌜ (sums .superior ≤ 3900000000000) × (80000000000 ≤ sums .mass) × (sums .mass ≤ 800000000000) ⌝ }
+fn indices(c: Counts, sums: gas::Sums, p: Properties) -> Counts
+    requires { ⌜ sums ≡ sumsOf ⌝ }
+    ensures { λ r. ⌜ r ≡ allCounted c (index (numbers p)) ⌝ }
 {
-    let ideal = steps::wobbe_index(
-        example_gas::ideal_heat(sums),
-        example_gas::ideal_relative(sums),
-    );
+    let h = steps::ideal_calorific_value(sums.h, steps::divisor(15));
+    let d = steps::ideal_relative_density(sums.m, 100000);
+    let ideal = steps::wobbe_index(CalorificValue::new(h), RelativeDensity::new(d));
     let w = p.w.value();
-    let counts = heats(
-        before,
-        b"annex D, D.4.3, ideal W",
-        50036,
-        5004,
-        ideal.value(),
-    );
-    let counts = heats(counts, b"annex D, D.4.3, W", 50104, 5010, w);
-    figures::figure(
-        counts,
-        b"annex D, D.4.3, W with all digits",
-        5011,
-        100,
-        rounding::nearest(w, 10000),
-    )
+    let c = twice(c, b"D.4.3, ideal W", 50036, 5004, 1000, ideal.value(), 1000);
+    let c = twice(c, b"D.4.3, W", 50104, 5010, 1000, w, 1000);
+    text(c, b"D.4.3, W with all digits", 5011, 100, w, 10000)
 }
 
-// The figures of the text.
-fn sections(before: Counts, table: &[[i32; 12]; 55], sums: Sums, p: Properties) -> Counts
-    requires { ⌜ now table ≡ componentTable ⌝ }
-    requires { ⌜ (sums .superior ≤ 3900000000000) × (natAbs (sums .summation) ≤ 5250000000) ⌝ }
-    requires { ⌜ (80000000000 ≤ sums .mass) × (sums .mass ≤ 800000000000) ⌝ }
-{
-    let counts = molar_and_mass(before, table, sums);
-    let counts = volume(counts, table, sums, p);
-    let counts = density(counts, sums, p);
-    wobbe(counts, sums, p)
-}
-
-// All figures, with the properties of the record of K1.
-fn compare_with(table: &[[i32; 12]; 55], p: Properties)
+// All figures, with the properties of the gas's record.
+fn print_counts(table: &[[i32; 12]; 55], p: Properties)
     requires { ⌜ now table ≡ componentTable ⌝ }
 {
-    let sums = example_gas::sums(table);
-    let counts = table_d1::rows(Counts::new(), table);
-    let counts = table_d1::totals(counts, sums);
-    let counts = sections(counts, table, sums, p);
-    io::write_all(STDOUT_FILENO, b"annex D: ");
+    let sums = gas::sums_of(table);
+    let counts = table_d1::rows(Counts::new(), table, &table_d1::PRINTED);
+    let counts = energies(counts, sums);
+    let counts = volumes(counts, sums, p);
+    let counts = densities(counts, sums, p);
+    let counts = indices(counts, sums, p);
+    places::put(b"annex D: ");
     counts.print();
 }
 
-pub fn compare(table: &[[i32; 12]; 55])
+pub fn print_comparison(table: &[[i32; 12]; 55])
     requires { ⌜ now table ≡ componentTable ⌝ }
 {
-    compare_record(table);
-    print_not_compared();
-}
-
-fn compare_record(table: &[[i32; 12]; 55])
-    requires { ⌜ now table ≡ componentTable ⌝ }
-{
-    match properties::properties_of(
-        b"\x47\x43\x52\x01\x00\x0F\x0F\x08\x01\x1C\x1C\x0E\x00\x02\xB8\x88\x00\x00\x03\x48\x26\x00\x00\x04\x98\x08\x00\x00\x05\x48\x0D\x00\x00\x06\x58\x02\x00\x00\x34\x5C\x44\x00\x00\x36\x90\x1A\x00\x00",
-    ) {
-        Answer::Accepted(p) => compare_with(table, p),
-        Answer::Refused(_) => refused(),
+    let mut record = [0u8; 48];
+    records::write(15, 15, &table_d1::LINES, &table_d1::FRACTIONS, &mut record);
+    match properties::properties_with(table, &record) {
+        Answer::Accepted(p) => print_counts(table, p),
+        Answer::Refused(_) => places::put(b"annex D: the record is refused\n"),
     }
-}
-
-fn refused() {
-    io::write_all(STDOUT_FILENO, b"annex D: the record is refused\n");
-}
-
-fn print_not_compared() {
-    io::write_all(
-        STDOUT_FILENO,
-        b"not compared: the fractions x of table D.1, the input\n",
-    );
-    io::write_all(
-        STDOUT_FILENO,
-        b"not compared: the constants p2, T2, R, molar mass of air, Z of air\n",
-    );
-    io::write_all(
-        STDOUT_FILENO,
-        b"not compared: figures that a later formula of annex D repeats\n",
-    );
-    io::write_all(
-        STDOUT_FILENO,
-        b"not compared: D.5 and table D.2, estimates of precision\n",
-    );
+    places::put(b"not compared: the fractions x of table D.1, the input\n");
+    places::put(b"not compared: the constants p2, T2, R, molar mass of air, Z of air\n");
+    places::put(b"not compared: figures that a later formula of annex D repeats\n");
+    places::put(b"not compared: D.5 and table D.2, estimates of precision\n");
 }

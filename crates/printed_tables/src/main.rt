@@ -2,12 +2,10 @@
 // figure that is not equal, with its place, how many are equal, one off in the last printed digit and neither, and what is printed in the
 // source and not compared.
 mod annex_d;
-mod example_gas;
 mod figures;
-mod per_cubic_metre;
-mod per_kilogram;
+mod gas;
+mod numbers;
 mod places;
-mod single;
 mod table_4;
 mod table_5;
 mod table_d1;
@@ -15,7 +13,7 @@ mod tables;
 
 fn main() {
     let table = components::component_table();
-    tables::compare(5, &table, &table_5::FIGURES, 12);
-    tables::compare(4, &table, &table_4::FIGURES, 8);
-    annex_d::compare(&table);
+    tables::print_comparison(5, &table, &table_5::FIGURES, 12);
+    tables::print_comparison(4, &table, &table_4::FIGURES, 8);
+    annex_d::print_comparison(&table);
 }

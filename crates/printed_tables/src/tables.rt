@@ -1,81 +1,92 @@
-// Tables 4 and 5: lines 1 to 48, with superior and inferior figures by turns.
+// Tables 4 and 5: the ideal calorific value per kilogram and per cubic metre of the lines 1 to 48, superior and inferior by turns.
 ghost use mathlib.Core.Path.{_≡_};
 ghost use Prim.Native.Nat.{_*_, _≤_, _<_};
 ghost use lib.ListN.{length};
 ghost use Rattle.components.specs.Table.{componentTable};
+ghost use Rattle.printed_tables.specs.Counts.{countsOf};
+ghost use Rattle.printed_tables.specs.Figures.{columnsOf, scaleOf, perKilogram, perCubicMetre, figureOf, figureAt};
 use super::figures;
-use super::figures::Counts;
-use super::per_cubic_metre;
-use super::per_kilogram;
+use super::numbers;
 use super::places;
-use libc::STDOUT_FILENO;
+use properties::steps;
 
-// The scale of the figures of a line in table 4 or 5.
+// The conditions of table 5, 15/15, 0/0, 15/0, 25/0, 20/20 and 25/20: the column of superior h, and the metering temperature, °C.
+const SUPERIOR: [usize; 6] = [8, 10, 8, 4, 6, 4];
+
+const METERING: [u8; 6] = [15, 0, 0, 0, 20, 20];
+
+// Three decimals for methane and, in table 5, hydrogen; two for the other lines.
 fn scale(number: u8, line: u8) -> u64
-    ensures { λ r. ⌜ 0 < r ⌝ }
+    ensures { λ r. ⌜ r ≡ scaleOf number line ⌝ }
 {
-    if number == 4 {
-        return per_kilogram::scale(line);
+    if (line == 1) | ((number == 5) & (line == 41)) {
+        return 1000;
     }
-    per_cubic_metre::scale(line)
+    100
 }
 
-// The calculated figure of a line and a column.
+// The figures of a line in a column.
+fn per_kilogram(table: &[[i32; 12]; 55], line: u8, column: usize) -> u64
+    requires { ⌜ now table ≡ componentTable ⌝ }
+    requires { ⌜ (1 ≤ line) × (line ≤ 55) × (column < 8) ⌝ }
+    ensures { λ r. ⌜ r ≡ perKilogram line column ⌝ }
+{
+    let h = numbers::number(table, line, numbers::H_25 + column);
+    let m = numbers::number(table, line, numbers::M);
+    rounding::nearest(10 * h * scale(4, line), m)
+}
+
+fn per_cubic_metre(table: &[[i32; 12]; 55], line: u8, column: usize) -> u64
+    requires { ⌜ now table ≡ componentTable ⌝ }
+    requires { ⌜ (1 ≤ line) × (line ≤ 55) × (column < 12) ⌝ }
+    ensures { λ r. ⌜ r ≡ perCubicMetre line column ⌝ }
+{
+    let h = numbers::number(table, line, SUPERIOR[column / 2] + column % 2);
+    let divisor = steps::divisor(METERING[column / 2]);
+    let value = steps::ideal_calorific_value(1000000 * h, divisor);
+    rounding::nearest(value * scale(5, line), 1000000)
+}
+
 fn calculated(number: u8, table: &[[i32; 12]; 55], line: u8, column: usize) -> u64
     requires { ⌜ now table ≡ componentTable ⌝ }
-    requires { ⌜ (1 ≤ line) × (line ≤ 55) ⌝ }
+    requires { ⌜ (1 ≤ line) × (line ≤ 55) × (column < columnsOf number) ⌝ }
+    ensures { λ r. ⌜ r ≡ figureOf number line column ⌝ }
 {
     if number == 4 {
-        return per_kilogram::calculated(table, line, column);
+        return per_kilogram(table, line, column);
     }
-    per_cubic_metre::calculated(table, line, column)
-}
-
-fn print_conditions(number: u8, column: usize) {
-    if number == 4 {
-        per_kilogram::print_conditions(column);
-        return;
-    }
-    per_cubic_metre::print_conditions(column);
-}
-
-fn report(number: u8, line: u8, column: usize, printed: u64, calculated: u64) {
-    if printed == calculated {
-        return;
-    }
-    places::print_place(number, line, column);
-    print_conditions(number, column);
-    figures::print_difference(printed, calculated, scale(number, line));
+    per_cubic_metre(table, line, column)
 }
 
 // All figures of a table, which stand line after line.
-fn compare_figures(number: u8, table: &[[i32; 12]; 55], figures: &[u32], columns: usize) -> Counts
+fn compare(number: u8, table: &[[i32; 12]; 55], figures: &[u32], columns: usize) -> figures::Counts
     requires { ⌜ now table ≡ componentTable ⌝ }
-    requires { ⌜ (0 < columns) × (length (now figures) ≡ 48 * columns) ⌝ }
+    requires { ⌜ (columns ≡ columnsOf number) × (length (now figures) ≡ 48 * columns) ⌝ }
+    ensures { λ r. ⌜ r ≡ countsOf (now (figures .entry)) (figureAt number) (length (now (figures .entry))) ⌝ }
 {
-    let mut counts = Counts::new();
+    let mut counts = figures::Counts::new();
     let mut i = 0;
     while i < figures.len() {
         let line = (i / columns) as u8 + 1;
         let column = i % columns;
-        let printed = figures[i] as u64;
+        let place = places::Place::Table(number, line, column);
         let calculated = calculated(number, table, line, column);
-        report(number, line, column, printed, calculated);
-        counts = counts.with(printed, calculated);
+        let scale = scale(number, line);
+        counts = figures::compare(counts, place, b"", figures[i] as u64, scale, calculated);
         i += 1;
     }
     counts
 }
 
-pub fn compare(number: u8, table: &[[i32; 12]; 55], figures: &[u32], columns: usize)
+pub fn print_comparison(number: u8, table: &[[i32; 12]; 55], figures: &[u32], columns: usize)
     requires { ⌜ now table ≡ componentTable ⌝ }
-    requires { ⌜ (0 < columns) × (length (now figures) ≡ 48 * columns) ⌝ }
+    requires { ⌜ (columns ≡ columnsOf number) × (length (now figures) ≡ 48 * columns) ⌝ }
 {
-    let counts = compare_figures(number, table, figures, columns);
+    let counts = compare(number, table, figures, columns);
     places::print_table(number);
-    io::write_all(STDOUT_FILENO, b": ");
+    places::put(b": ");
     counts.print();
-    io::write_all(STDOUT_FILENO, b"not compared: the names of ");
+    places::put(b"not compared: the names of ");
     places::print_table(number);
-    io::write_all(STDOUT_FILENO, b"; it has no lines 49 to 55\n");
+    places::put(b"; it has no lines 49 to 55\n");
 }

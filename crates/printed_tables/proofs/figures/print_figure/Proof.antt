@@ -9,26 +9,26 @@ Inv-loop digits scale place₀ place = Unit
 abbrev μ-loop : tie.MeasureT-loop
 μ-loop digits scale place₀ place = place
 
-div-print-decimal : tie.Need-div-print-decimal Inv-loop μ-loop
-div-print-decimal c = search needs
+div-put-number : tie.Need-div-put-number Inv-loop μ-loop
+div-put-number c = search needs
 
-print-decimal-requires : tie.Need-print-decimal-requires Inv-loop μ-loop
-print-decimal-requires c κs = search needs
+put-number-requires : tie.Need-put-number-requires Inv-loop μ-loop
+put-number-requires c κs = search needs
 
-slice-aggregate-write-all : tie.Need-slice-aggregate-write-all Inv-loop μ-loop
-slice-aggregate-write-all c = search needs
+slice-aggregate-put : tie.Need-slice-aggregate-put Inv-loop μ-loop
+slice-aggregate-put c = search needs
 
-write-all-requires : tie.Need-write-all-requires Inv-loop μ-loop
-write-all-requires c κs = search needs
+put-requires : tie.Need-put-requires Inv-loop μ-loop
+put-requires c κs = search needs
 
 loop-holds : tie.Need-loop-holds Inv-loop μ-loop
 loop-holds c = search needs
 
-div-print-decimal-2 : tie.Need-div-print-decimal-2 Inv-loop μ-loop
-div-print-decimal-2 c = search needs
+div-put-number-2 : tie.Need-div-put-number-2 Inv-loop μ-loop
+div-put-number-2 c = search needs
 
-print-decimal-requires-2 : tie.Need-print-decimal-requires-2 Inv-loop μ-loop
-print-decimal-requires-2 c κs = search needs
+put-number-requires-2 : tie.Need-put-number-requires-2 Inv-loop μ-loop
+put-number-requires-2 c κs = search needs
 
 loop-less : tie.Need-loop-less Inv-loop μ-loop
 loop-less c = search needs
@@ -45,13 +45,13 @@ print-figure-spec =
     (tie.spec
     Inv-loop
     μ-loop
-    div-print-decimal
-    print-decimal-requires
-    slice-aggregate-write-all
-    write-all-requires
+    div-put-number
+    put-number-requires
+    slice-aggregate-put
+    put-requires
     loop-holds
-    div-print-decimal-2
-    print-decimal-requires-2
+    div-put-number-2
+    put-number-requires-2
     loop-less
     loop-again
     returns)

@@ -1,0 +1,88 @@
+-- The gas of annex D: its composition, its sums, and bounds of its parts, each computed.
+use mathlib.Core.Path.{_≡_, refl}
+use Prim.Native.Nat.{ℕ, zero, suc, _+_, _*_, _≤_, _<_}
+use native.Mathlib.Numerals.{add-one}
+use native.Mathlib.Omega.{arith}
+use lib.Dec.{leb, leb→le}
+use lib.IntN.{natAbs}
+use Rattle.rounding.specs.Near.{near}
+use Rattle.components.specs.Table.{componentTable, molarMass, summation, superior}
+use Rattle.components.specs.Composition.{Composition, total, sumOf, overLines, fractionFor}
+use Rattle.components.proofs.Every.{at}
+use Rattle.properties.specs.Chain.{HmSuperior, M, S, D, T}
+use Rattle.printed_tables.specs.declared.gas.Sums.{Sums}
+use Rattle.printed_tables.specs.AnnexD.{idealH, idealD}
+use Rattle.printed_tables.specs.Gas.{gas, lineAt, fractionAt, massPart, volumePart, sumTo, sumsOf}
+
+pub line-in : (k : ℕ) → k < 8 → (1 ≤ lineAt k) × (lineAt k ≤ 55)
+line-in k h =
+    (leb→le _ _ (at (λ (k : ℕ). leb 1 (lineAt k)) 8 tt k h), leb→le _ _ (at (λ (k : ℕ). leb (lineAt k) 55) 8 tt k h))
+
+pub fraction-high : (k : ℕ) → k < 8 → fractionAt k ≤ 1000000
+fraction-high k h = leb→le _ _ (at (λ (k : ℕ). leb (fractionAt k) 1000000) 8 tt k h)
+
+pub fraction-low : (k : ℕ) → k < 8 → fractionAt k ≤ 100000000000000
+fraction-low k h = omega (arith, fraction-high k h)
+
+pub composition : Composition (gas .lines) (gas .fractions)
+unfolding total
+composition = record { same = refl; lines = line-in; sum = omega arith }
+
+-- the sums, over the entries and over all lines
+pub h-is : natAbs (sumOf (superior 2) (gas .lines) (gas .fractions)) ≡ HmSuperior gas
+unfolding HmSuperior sumOf overLines fractionFor componentTable
+h-is = refl
+
+pub m-is : natAbs (sumOf molarMass (gas .lines) (gas .fractions)) ≡ M gas
+unfolding M sumOf overLines fractionFor componentTable
+m-is = refl
+
+pub s-is : sumOf (summation 1) (gas .lines) (gas .fractions) ≡ S gas
+unfolding S sumOf overLines fractionFor componentTable
+s-is = refl
+
+pub h-value : HmSuperior gas ≡ 919085816000
+unfolding HmSuperior overLines fractionFor componentTable
+h-value = refl
+
+pub m-value : M gas ≡ 174778457500
+unfolding M overLines fractionFor componentTable
+m-value = refl
+
+pub s-value : natAbs (S gas) ≡ 478542000
+unfolding S overLines fractionFor componentTable
+s-value = refl
+
+module _ {s : Sums} (e : s ≡ sumsOf) where
+  pub h-sum : s .h ≡ 919085816000
+  h-sum = rw e h-value
+
+  pub m-sum : s .m ≡ 174778457500
+  m-sum = rw e m-value
+
+pub ideal-h : idealH ≡ 38870255
+unfolding idealH HmSuperior D T overLines fractionFor componentTable near
+ideal-h = refl
+
+pub ideal-d : idealD ≡ 60346259
+unfolding idealD M overLines fractionFor componentTable near
+ideal-d = refl
+
+-- one part more
+pub sum-step : (n : ℕ) (f : ℕ → ℕ) → sumTo (n + 1) f ≡ sumTo n f + f n
+unfolding sumTo
+sum-step n f = rw add-one
+
+-- no part passes 10^14, and no sum of parts
+pub mass-part-high : (k : ℕ) → k < 8 → massPart k ≤ 100000000000000
+unfolding massPart M overLines fractionFor componentTable near
+mass-part-high k h = leb→le _ _ (at (λ (k : ℕ). leb (massPart k) 100000000000000) 8 tt k h)
+
+pub volume-part-high : (k : ℕ) → k < 8 → volumePart k ≤ 100000000000000
+unfolding volumePart D T componentTable near
+volume-part-high k h = leb→le _ _ (at (λ (k : ℕ). leb (volumePart k) 100000000000000) 8 tt k h)
+
+pub sum-high : (f : ℕ → ℕ) → ((k : ℕ) → k < 8 → f k ≤ 100000000000000) → (n : ℕ) → n ≤ 8 → sumTo n f ≤ n * 100000000000000
+unfolding sumTo
+sum-high f h zero l = omega arith
+sum-high f h (suc n) l = omega (arith, sum-high f h n (omega arith), h n (omega arith))

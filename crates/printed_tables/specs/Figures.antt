@@ -1,0 +1,52 @@
+-- The calculated figures of tables 4 and 5. A figure stands as its digits without the decimal sign, beside its scale: 1000 for three
+-- decimals.
+use mathlib.Core.Bool.{cond, _&&_, _||_}
+use mathlib.Core.List.{List, [], _∷_}
+use Prim.Native.Nat.{ℕ, _+_, _*_, _/_, _%_, _^_}
+use lib.Dec.{eqb}
+use lib.IntN.{natAbs}
+use lib.ListN.{getD}
+use Rattle.rounding.specs.Near.{near}
+use Rattle.components.specs.Table.{entryOf, molarMass, superior}
+use Rattle.properties.specs.Chain.{combustionPlace, divisor, temperature, idealCalorific}
+
+-- a number of the component table, without its sign
+abbrev pub numberOf : ℕ → ℕ → ℕ
+numberOf l c = natAbs (entryOf l c)
+
+-- table 4 has superior and inferior by turns at four temperatures, table 5 at six pairs
+abbrev pub columnsOf : ℕ → ℕ
+columnsOf table = cond (eqb table 4) 8 12
+
+-- three decimals for methane and, in table 5, hydrogen; two for the other lines
+abbrev pub scaleOf : ℕ → ℕ → ℕ
+scaleOf table l = cond (eqb l 1 || (eqb table 5 && eqb l 41)) 1000 100
+
+-- table 4, MJ/kg: h / m, with h in 0.001 kJ/mol at 25, 20, 15 and 0 °C and m in 0.0001 kg/kmol
+abbrev pub perKilogram : ℕ → ℕ → ℕ
+perKilogram l c = near (10 * numberOf l (superior 0 + c) * scaleOf 4 l) (numberOf l molarMass)
+
+-- the columns of superior h and the metering temperatures at 15/15, 0/0, 15/0, 25/0, 20/20 and 25/20
+abbrev superiorAt : ℕ → ℕ
+superiorAt combustion = superior (combustionPlace combustion)
+
+abbrev pub superiors : List ℕ
+superiors = superiorAt 15 ∷ superiorAt 0 ∷ superiorAt 15 ∷ superiorAt 25 ∷ superiorAt 20 ∷ superiorAt 25 ∷ []
+
+abbrev pub meterings : List ℕ
+meterings = 15 ∷ 0 ∷ 0 ∷ 0 ∷ 20 ∷ 20 ∷ []
+
+-- table 5, MJ/m³: the ideal calorific value of a line at 1,000,000 ppm
+abbrev pub perCubicMetre : ℕ → ℕ → ℕ
+perCubicMetre l c =
+    near
+    (idealCalorific (10 ^ 6 * numberOf l (getD superiors (c / 2) 0 + c % 2)) (divisor (temperature (getD meterings (c / 2) 0))) * scaleOf 5 l)
+    (10 ^ 6)
+
+-- the figure of a line in a column of table 4 or 5
+abbrev pub figureOf : ℕ → ℕ → ℕ → ℕ
+figureOf table l c = cond (eqb table 4) (perKilogram l c) (perCubicMetre l c)
+
+-- the k-th figure: the lines from 1 on stand one after the other
+abbrev pub figureAt : ℕ → ℕ → ℕ
+figureAt table k = figureOf table (k / columnsOf table + 1) (k % columnsOf table)

@@ -1,0 +1,4 @@
+pub mod Counts
+pub mod Figures
+pub mod Gas
+pub mod AnnexD
