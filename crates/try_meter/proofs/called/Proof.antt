@@ -1,5 +1,5 @@
 -- The letter of the call is tested in the definition's order.
-use mathlib.Core.Path.{refl, sym, subst}
+use mathlib.Core.Path.{sym, subst}
 use borrow.Author.Needs.{needs}
 use borrow.Author.Tests.{eq-eqb, ne-eqb}
 use Rattle.meter.specs.State.{Sound}

@@ -1,5 +1,4 @@
 -- The test of the definition is that of the code.
-use mathlib.Core.Path.{refl}
 use native.Mathlib.Omega.{arith}
 use borrow.Author.Tests.{eq-eqb, ne-eqb}
 use Rattle.try_records.proofs.one_if_170.Statement.{statement}
