@@ -137,12 +137,16 @@ def output():
         yield f"{name} {scale} {bound}"
 
 
+def length(of):
+    return len(of).to_bytes(2, "little")
+
+
 def records():
-    """For each of `output`: the lengths of its title, 1 byte, and of its record, 2 bytes, and the two."""
+    """For each of `output`: the lengths of its title and of its record, 2 bytes each, and the two."""
     cases = [(title, record(combustion, metering, gas)) for title, _, combustion, metering, gas in GASES]
     cases += [(title, refused[0] if refused else record(15, 15, case)) for title, case, *refused in CASES]
     for title, bytes_ in cases:
-        yield len(title).to_bytes(1, "little") + len(bytes_).to_bytes(2, "little") + title.encode() + bytes_
+        yield length(title) + length(bytes_) + title.encode() + bytes_
 
 
 # what crates/try_records reads and writes again: K2, also at 25/20; the refused records of K3 to K8; a fraction of 0; and bytes that end
@@ -163,7 +167,7 @@ READ = [
 def read():
     """For each of READ: its length, 2 bytes, and itself."""
     for given in READ:
-        yield len(given).to_bytes(2, "little") + given
+        yield length(given) + given
 
 
 class Stream:
@@ -254,7 +258,7 @@ def meter():
 
 
 def call(kind, k=0, volume=0, title="", given=b""):
-    return kind + bytes([len(title), len(given)]) + k.to_bytes(8, "little") + volume.to_bytes(8, "little") + title.encode() + given
+    return kind + length(title) + length(given) + k.to_bytes(8, "little") + volume.to_bytes(8, "little") + title.encode() + given
 
 
 def calls():

@@ -38,7 +38,7 @@ pub fn number_2(bytes: &[u8], at: usize) -> u32
 }
 
 // The 4-byte number at an offset.
-fn number_4(bytes: &[u8], at: usize) -> u32
+pub fn number_4(bytes: &[u8], at: usize) -> u32
     requires { ⌜ at + 4 ≤ length (now bytes) ⌝ }
     ensures { λ r. ⌜ r ≡ number4 (now (bytes .entry)) at ⌝ }
 {

@@ -11,6 +11,8 @@ mod scan;
 pub use conditions::head_refusal;
 pub use format::fraction_in;
 pub use format::line_in;
+pub use format::number_2;
+pub use format::number_4;
 pub use scan::entries_refusal;
 
 // Accepted, or refused with document 01's number.

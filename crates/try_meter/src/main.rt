@@ -3,7 +3,7 @@
 // that is full.
 //
 // The input is made by `tools/reference.py calls`, whose `CALLS` has the lists. A call is a letter, the lengths of a title and of a
-// record (1 byte each), a stream and a volume in dm³ (8 bytes each, least significant first), the title, and the record. The letter
+// record (2 bytes each), a stream and a volume in dm³ (8 bytes each, least significant first), the title, and the record. The letter
 // `n` takes a fresh meter, `a` is an analysis, `m` a metering call, `f` fills a stream, and `r` reads one.
 use libc::STDIN_FILENO;
 use meter::MeanAnswer;
@@ -11,9 +11,8 @@ use meter::Meter;
 use meter::TotalsAnswer;
 use records::Verdict;
 ghost use mathlib.Core.Path.{_≡_};
-ghost use Prim.Native.Nat.{_+_, _≤_, _<_};
+ghost use Prim.Native.Nat.{_+_, _≤_};
 ghost use lib.ListN.{length};
-ghost use Rattle.records.specs.Format.{number4};
 ghost use Rattle.meter.specs.State.{Sound};
 ghost use Rattle.try_meter.specs.Calls.{number8, afterAnalysis, afterMetering, filledBy, afterCall};
 
@@ -124,28 +123,12 @@ fn called(m: Meter, kind: u8, stream: usize, volume: u64, title: &[u8], bytes: &
     m
 }
 
-fn wide(byte: u8) -> u32
-    ensures { λ r. ⌜ (r ≡ byte) × (r < 256) ⌝ }
-{
-    byte as u32
-}
-
-// The 4-byte and the 8-byte number at an offset.
-fn number_4(bytes: &[u8], at: usize) -> u32
-    requires { ⌜ at + 4 ≤ length (now bytes) ⌝ }
-    ensures { λ r. ⌜ r ≡ number4 (now (bytes .entry)) at ⌝ }
-{
-    wide(bytes[at])
-        + 256 * wide(bytes[at + 1])
-        + 65536 * wide(bytes[at + 2])
-        + 16777216 * wide(bytes[at + 3])
-}
-
+// The 8-byte number at an offset.
 fn number_8(bytes: &[u8], at: usize) -> u64
     requires { ⌜ at + 8 ≤ length (now bytes) ⌝ }
     ensures { λ r. ⌜ r ≡ number8 (now (bytes .entry)) at ⌝ }
 {
-    number_4(bytes, at) as u64 + 4294967296 * (number_4(bytes, at + 4) as u64)
+    records::number_4(bytes, at) as u64 + 4294967296 * (records::number_4(bytes, at + 4) as u64)
 }
 
 // Every call of the input, up to one that it does not hold whole.
@@ -154,15 +137,15 @@ fn calls(input: &[u8])
 {
     let mut m = meter::fresh();
     let mut at = 0;
-    while at + 19 <= input.len() {
-        let title = at + 19;
-        let record = title + wide(input[at + 1]) as usize;
-        let end = record + wide(input[at + 2]) as usize;
+    while at + 21 <= input.len() {
+        let title = at + 21;
+        let record = title + records::number_2(input, at + 1) as usize;
+        let end = record + records::number_2(input, at + 3) as usize;
         if input.len() < end {
             return;
         }
-        let stream = number_8(input, at + 3) as usize;
-        let volume = number_8(input, at + 11);
+        let stream = number_8(input, at + 5) as usize;
+        let volume = number_8(input, at + 13);
         m = called(
             m,
             input[at],

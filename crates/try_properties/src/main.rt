@@ -1,10 +1,9 @@
 // Runs the compiled call on the cases of its input and prints what comes back; then the scale and the ceiling of each quantity.
 //
 // The input, made by `tools/reference.py records`, has the gases of crates/properties/specs/Cases.antt, K1 to K8 of document 01, and
-// heads that are not those of a record. A case is the length of a title (1 byte), the length of a record (2 bytes, least significant
-// first), the title, and the record.
-ghost use mathlib.Core.Path.{_≡_};
-ghost use Prim.Native.Nat.{_≤_, _<_};
+// heads that are not those of a record. A case is the lengths of a title and of a record (2 bytes each, least significant first), the
+// title, and the record.
+ghost use Prim.Native.Nat.{_≤_};
 ghost use lib.ListN.{length};
 use libc::STDIN_FILENO;
 use properties::quantities::CalorificValue;
@@ -32,21 +31,15 @@ fn case(title: &[u8], record: &[u8]) {
     }
 }
 
-fn wide(byte: u8) -> usize
-    ensures { λ r. ⌜ (r ≡ byte) × (r < 256) ⌝ }
-{
-    byte as usize
-}
-
 // Every case of the input, up to one that it does not hold whole.
 fn cases(input: &[u8])
     requires { ⌜ length (now input) ≤ 4096 ⌝ }
 {
     let mut at = 0;
-    while at + 3 <= input.len() {
-        let title = at + 3;
-        let record = title + wide(input[at]);
-        let end = record + wide(input[at + 1]) + 256 * wide(input[at + 2]);
+    while at + 4 <= input.len() {
+        let title = at + 4;
+        let record = title + records::number_2(input, at) as usize;
+        let end = record + records::number_2(input, at + 2) as usize;
         if input.len() < end {
             return;
         }

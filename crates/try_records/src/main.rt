@@ -6,7 +6,7 @@
 // The gases are those below. The bytes are those of the input, made by `tools/reference.py read`, each with its length before it
 // (2 bytes, least significant first).
 ghost use mathlib.Core.Path.{_≡_};
-ghost use Prim.Native.Nat.{_≤_, _<_};
+ghost use Prim.Native.Nat.{_≤_};
 ghost use lib.ListN.{length};
 ghost use Rattle.try_records.specs.Untouched.{oneIf170, untouchedIn};
 use libc::STDIN_FILENO;
@@ -144,12 +144,6 @@ fn bytes(bytes: &[u8]) {
     report::print_text(b"\n");
 }
 
-fn wide(byte: u8) -> usize
-    ensures { λ r. ⌜ (r ≡ byte) × (r < 256) ⌝ }
-{
-    byte as usize
-}
-
 // All bytes of the input, up to those that it does not hold whole.
 fn all_bytes(input: &[u8])
     requires { ⌜ length (now input) ≤ 4096 ⌝ }
@@ -157,7 +151,7 @@ fn all_bytes(input: &[u8])
     let mut at = 0;
     while at + 2 <= input.len() {
         let from = at + 2;
-        let end = from + wide(input[at]) + 256 * wide(input[at + 1]);
+        let end = from + records::number_2(input, at) as usize;
         if input.len() < end {
             return;
         }

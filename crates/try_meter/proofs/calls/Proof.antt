@@ -2,9 +2,9 @@
 use mathlib.Core.Path.{sym, subst}
 use Prim.Native.Nat.{_-_, _≤_}
 use lib.ListN.{length}
-use borrow.Author.Needs.{needs}
 use Rattle.meter.specs.State.{Sound}
 use Rattle.meter.proofs.Kept.{fresh-is-sound}
+use borrow.Author.Needs.{needs}
 use Rattle.try_meter.proofs.calls.Statement.{statement}
 use Rattle.try_meter.proofs.calls.Tie as tie
 
@@ -26,14 +26,11 @@ add-loop c = search needs
 add-title : tie.Need-add-title Inv-loop μ-loop
 add-title c = search needs
 
-add-wide : tie.Need-add-wide Inv-loop μ-loop
-add-wide c = search needs
+add-number-2 : tie.Need-add-number-2 Inv-loop μ-loop
+add-number-2 c = search needs
 
-shared-slice-read-wide : tie.Need-shared-slice-read-wide Inv-loop μ-loop
-shared-slice-read-wide c = search needs
-
-wide-requires : tie.Need-wide-requires Inv-loop μ-loop
-wide-requires c κs = search needs
+number-2-requires : tie.Need-number-2-requires Inv-loop μ-loop
+number-2-requires c κs = search needs
 
 cast-record : tie.Need-cast-record Inv-loop μ-loop
 cast-record c = search needs
@@ -41,14 +38,11 @@ cast-record c = search needs
 add-record : tie.Need-add-record Inv-loop μ-loop
 add-record c = search needs
 
-add-wide-2 : tie.Need-add-wide-2 Inv-loop μ-loop
-add-wide-2 c = search needs
+add-number-2-2 : tie.Need-add-number-2-2 Inv-loop μ-loop
+add-number-2-2 c = search needs
 
-shared-slice-read-wide-2 : tie.Need-shared-slice-read-wide-2 Inv-loop μ-loop
-shared-slice-read-wide-2 c = search needs
-
-wide-requires-2 : tie.Need-wide-requires-2 Inv-loop μ-loop
-wide-requires-2 c κs = search needs
+number-2-requires-2 : tie.Need-number-2-requires-2 Inv-loop μ-loop
+number-2-requires-2 c κs = search needs
 
 cast-end : tie.Need-cast-end Inv-loop μ-loop
 cast-end c = search needs
@@ -114,14 +108,12 @@ calls-spec =
     loop-holds
     add-loop
     add-title
-    add-wide
-    shared-slice-read-wide
-    wide-requires
+    add-number-2
+    number-2-requires
     cast-record
     add-record
-    add-wide-2
-    shared-slice-read-wide-2
-    wide-requires-2
+    add-number-2-2
+    number-2-requires-2
     cast-end
     add-end
     returns

@@ -20,41 +20,26 @@ add-loop c = search needs
 add-title : tie.Need-add-title Inv-loop μ-loop
 add-title c = search needs
 
-shared-slice-read-wide : tie.Need-shared-slice-read-wide Inv-loop μ-loop
-shared-slice-read-wide c = search needs
+number-2-requires : tie.Need-number-2-requires Inv-loop μ-loop
+number-2-requires c κs = search needs
 
-wide-requires : tie.Need-wide-requires Inv-loop μ-loop
-wide-requires c κs = search needs
+cast-record : tie.Need-cast-record Inv-loop μ-loop
+cast-record c = search needs
 
 add-record : tie.Need-add-record Inv-loop μ-loop
 add-record c = search needs
 
-add-wide : tie.Need-add-wide Inv-loop μ-loop
-add-wide c = search needs
+add-number-2 : tie.Need-add-number-2 Inv-loop μ-loop
+add-number-2 c = search needs
 
-shared-slice-read-wide-2 : tie.Need-shared-slice-read-wide-2 Inv-loop μ-loop
-shared-slice-read-wide-2 c = search needs
+number-2-requires-2 : tie.Need-number-2-requires-2 Inv-loop μ-loop
+number-2-requires-2 c κs = search needs
 
-wide-requires-2 : tie.Need-wide-requires-2 Inv-loop μ-loop
-wide-requires-2 c κs = search needs
+cast-end : tie.Need-cast-end Inv-loop μ-loop
+cast-end c = search needs
 
 add-end : tie.Need-add-end Inv-loop μ-loop
 add-end c = search needs
-
-add-wide-2 : tie.Need-add-wide-2 Inv-loop μ-loop
-add-wide-2 c = search needs
-
-shared-slice-read-wide-3 : tie.Need-shared-slice-read-wide-3 Inv-loop μ-loop
-shared-slice-read-wide-3 c = search needs
-
-wide-requires-3 : tie.Need-wide-requires-3 Inv-loop μ-loop
-wide-requires-3 c κs = search needs
-
-mul-end : tie.Need-mul-end Inv-loop μ-loop
-mul-end c = search needs
-
-add-end-2 : tie.Need-add-end-2 Inv-loop μ-loop
-add-end-2 c = search needs
 
 returns : tie.Need-returns Inv-loop μ-loop
 returns c = search needs
@@ -98,18 +83,13 @@ cases-spec =
     loop-holds
     add-loop
     add-title
-    shared-slice-read-wide
-    wide-requires
+    number-2-requires
+    cast-record
     add-record
-    add-wide
-    shared-slice-read-wide-2
-    wide-requires-2
+    add-number-2
+    number-2-requires-2
+    cast-end
     add-end
-    add-wide-2
-    shared-slice-read-wide-3
-    wide-requires-3
-    mul-end
-    add-end-2
     returns
     sub-case
     part-case-start

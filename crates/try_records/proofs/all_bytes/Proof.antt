@@ -20,29 +20,14 @@ add-loop c = search needs
 add-from : tie.Need-add-from Inv-loop μ-loop
 add-from c = search needs
 
-shared-slice-read-wide : tie.Need-shared-slice-read-wide Inv-loop μ-loop
-shared-slice-read-wide c = search needs
+number-2-requires : tie.Need-number-2-requires Inv-loop μ-loop
+number-2-requires c κs = search needs
 
-wide-requires : tie.Need-wide-requires Inv-loop μ-loop
-wide-requires c κs = search needs
+cast-end : tie.Need-cast-end Inv-loop μ-loop
+cast-end c = search needs
 
 add-end : tie.Need-add-end Inv-loop μ-loop
 add-end c = search needs
-
-add-wide : tie.Need-add-wide Inv-loop μ-loop
-add-wide c = search needs
-
-shared-slice-read-wide-2 : tie.Need-shared-slice-read-wide-2 Inv-loop μ-loop
-shared-slice-read-wide-2 c = search needs
-
-wide-requires-2 : tie.Need-wide-requires-2 Inv-loop μ-loop
-wide-requires-2 c κs = search needs
-
-mul-end : tie.Need-mul-end Inv-loop μ-loop
-mul-end c = search needs
-
-add-end-2 : tie.Need-add-end-2 Inv-loop μ-loop
-add-end-2 c = search needs
 
 returns : tie.Need-returns Inv-loop μ-loop
 returns c = search needs
@@ -77,14 +62,9 @@ all-bytes-spec =
     loop-holds
     add-loop
     add-from
-    shared-slice-read-wide
-    wide-requires
+    number-2-requires
+    cast-end
     add-end
-    add-wide
-    shared-slice-read-wide-2
-    wide-requires-2
-    mul-end
-    add-end-2
     returns
     sub-bytes
     part-bytes-start
