@@ -1,4 +1,4 @@
--- The gas of annex D: its composition, its sums, and bounds of its parts, each computed.
+-- The gas of annex D: its composition, its sums, and bounds of its parts and figures, each computed.
 use mathlib.Core.Path.{_≡_, refl}
 use Prim.Native.Nat.{ℕ, zero, suc, _+_, _*_, _≤_, _<_}
 use native.Mathlib.Numerals.{add-one}
@@ -41,7 +41,7 @@ pub s-is : sumOf (summation 1) (gas .lines) (gas .fractions) ≡ S gas
 unfolding S sumOf overLines fractionFor componentTable
 s-is = refl
 
-pub h-value : HmSuperior gas ≡ 919085816000
+h-value : HmSuperior gas ≡ 919085816000
 unfolding HmSuperior overLines fractionFor componentTable
 h-value = refl
 

@@ -49,7 +49,7 @@ fn fraction(i: usize) -> u64
     FRACTIONS[i] as u64
 }
 
-// The scale of the k-th figure. Molar masses have three decimals, and nitrogen's, the 36th figure, four.
+// The scale of the k-th figure. Molar masses have three decimals, and nitrogen's, figure 36, four.
 pub fn scale(k: usize) -> u64
     ensures { λ r. ⌜ r ≡ rowScale k ⌝ }
 {

@@ -45,8 +45,10 @@ fn print_place(part: Part, k: usize) {
         Part::Table4 => print_cell(4, k / 8 + 1, k % 8, 6 + k % 8 / 2),
         Part::Table5 => print_cell(5, k / 12 + 1, k % 12, k % 12 / 2),
         Part::TableD1 => {
-            print_text(b"annex D, table D.1, figure ");
-            print_number(k as u64 % 48 + 1);
+            print_text(b"annex D, table D.1, row ");
+            print_number(k as u64 / 6 + 1);
+            print_text(b", column ");
+            print_number(k as u64 % 6 + 1);
         }
         Part::Text => {
             print_text(b"annex D, ");
