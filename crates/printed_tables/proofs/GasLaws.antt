@@ -1,25 +1,25 @@
--- The gas of annex D: its composition, its sums, and bounds of its parts, each computed.
+-- The gas of annex D: its composition, its sums, and bounds of its parts and figures, each computed.
 use mathlib.Core.Path.{_≡_, refl}
 use Prim.Native.Nat.{ℕ, zero, suc, _+_, _*_, _≤_, _<_}
 use native.Mathlib.Numerals.{add-one}
 use native.Mathlib.Omega.{arith}
-use lib.Dec.{leb, leb→le}
 use lib.IntN.{natAbs}
+use lib.ListN.{getD}
 use Rattle.rounding.specs.Near.{near}
 use Rattle.components.specs.Table.{componentTable, molarMass, summation, superior}
 use Rattle.components.specs.Composition.{Composition, total, sumOf, overLines, fractionFor}
-use Rattle.components.proofs.Every.{at}
 use Rattle.properties.specs.Chain.{HmSuperior, M, S, D, T}
 use Rattle.printed_tables.specs.declared.gas.Sums.{Sums}
-use Rattle.printed_tables.specs.AnnexD.{idealH, idealD}
 use Rattle.printed_tables.specs.Gas.{gas, lineAt, fractionAt, massPart, volumePart, sumTo, sumsOf}
+use Rattle.printed_tables.specs.TableD1.{rowColumns, rowWeight, rowScale, rowUnits}
+use Rattle.printed_tables.specs.Text.{textSteps, ofSix, idealH, idealD}
+use Rattle.printed_tables.proofs.NumberLaws.{at-most, at-least}
 
 pub line-in : (k : ℕ) → k < 8 → (1 ≤ lineAt k) × (lineAt k ≤ 55)
-line-in k h =
-    (leb→le _ _ (at (λ (k : ℕ). leb 1 (lineAt k)) 8 tt k h), leb→le _ _ (at (λ (k : ℕ). leb (lineAt k) 55) 8 tt k h))
+line-in k h = (at-least lineAt 1 8 tt k h, at-most lineAt 55 8 tt k h)
 
 pub fraction-high : (k : ℕ) → k < 8 → fractionAt k ≤ 1000000
-fraction-high k h = leb→le _ _ (at (λ (k : ℕ). leb (fractionAt k) 1000000) 8 tt k h)
+fraction-high = at-most fractionAt 1000000 8 tt
 
 pub fraction-low : (k : ℕ) → k < 8 → fractionAt k ≤ 100000000000000
 fraction-low k h = omega (arith, fraction-high k h)
@@ -41,7 +41,7 @@ pub s-is : sumOf (summation 1) (gas .lines) (gas .fractions) ≡ S gas
 unfolding S sumOf overLines fractionFor componentTable
 s-is = refl
 
-pub h-value : HmSuperior gas ≡ 919085816000
+h-value : HmSuperior gas ≡ 919085816000
 unfolding HmSuperior overLines fractionFor componentTable
 h-value = refl
 
@@ -76,13 +76,29 @@ sum-step n f = rw add-one
 -- no part passes 10^14, and no sum of parts
 pub mass-part-high : (k : ℕ) → k < 8 → massPart k ≤ 100000000000000
 unfolding massPart M overLines fractionFor componentTable near
-mass-part-high k h = leb→le _ _ (at (λ (k : ℕ). leb (massPart k) 100000000000000) 8 tt k h)
+mass-part-high = at-most massPart 100000000000000 8 tt
 
 pub volume-part-high : (k : ℕ) → k < 8 → volumePart k ≤ 100000000000000
 unfolding volumePart D T componentTable near
-volume-part-high k h = leb→le _ _ (at (λ (k : ℕ). leb (volumePart k) 100000000000000) 8 tt k h)
+volume-part-high = at-most volumePart 100000000000000 8 tt
 
 pub sum-high : (f : ℕ → ℕ) → ((k : ℕ) → k < 8 → f k ≤ 100000000000000) → (n : ℕ) → n ≤ 8 → sumTo n f ≤ n * 100000000000000
 unfolding sumTo
 sum-high f h zero l = omega arith
 sum-high f h (suc n) l = omega (arith, sum-high f h n (omega arith), h n (omega arith))
+
+-- the columns, weights, scales and units of table D.1, and the steps of the text
+pub column-in : (k : ℕ) → k < 6 → getD rowColumns k 0 ≤ 11
+column-in = at-most (λ (k : ℕ). getD rowColumns k 0) 11 6 tt
+
+pub weight-high : (k : ℕ) → k < 48 → rowWeight k ≤ 1000000
+weight-high = at-most rowWeight 1000000 48 tt
+
+pub row-scale-high : (k : ℕ) → k < 48 → rowScale k ≤ 100000
+row-scale-high = at-most rowScale 100000 48 tt
+
+pub unit-above : (k : ℕ) → k < 6 → 1 ≤ getD rowUnits k 0
+unit-above = at-least (λ (k : ℕ). getD rowUnits k 0) 1 6 tt
+
+pub step-above : (k : ℕ) → k < 29 → 1 ≤ ofSix textSteps k
+step-above = at-least (ofSix textSteps) 1 29 tt

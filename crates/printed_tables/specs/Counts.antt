@@ -1,10 +1,8 @@
 -- How many figures are equal, one off in the last printed digit, and neither.
 use mathlib.Core.Bool.{Bool, cond}
-use mathlib.Core.List.{List, [], _∷_}
-use Prim.Native.Nat.{ℕ, zero, suc, _+_, _-_, _%_, _^_}
+use Prim.Native.Nat.{ℕ, _+_, _-_, _%_, _^_}
 use lib.Dec.{eqb, ltb}
-use lib.ListN.{getD}
-use Rattle.printed_tables.specs.declared.figures.Counts.{Counts}
+use Rattle.printed_tables.specs.declared.parts.Counts.{Counts}
 
 abbrev pub distance : ℕ → ℕ → ℕ
 distance a b = (a - b) + (b - a)
@@ -25,13 +23,3 @@ counted c printed calculated =
       «one_off» = more (c .«one_off») (eqb off 1);
       otherwise = more (c .otherwise) (ltb 1 off);
     }
-
--- with each figure of a list more
-abbrev pub allCounted : Counts → List (ℕ × ℕ) → Counts
-allCounted c [] = c
-allCounted c (f ∷ fs) = allCounted (counted c (f .0) (f .1)) fs
-
--- the counts of the first n of a list of printed figures, where the k-th is calculated as f k
-unfoldable pub countsOf : List ℕ → (ℕ → ℕ) → ℕ → Counts
-countsOf printed f zero = none
-countsOf printed f (suc n) = counted (countsOf printed f n) (getD printed n 0) (f n)

@@ -14,10 +14,6 @@ use Rattle.properties.specs.Chain.{combustionPlace, divisor, temperature, ideal
 abbrev pub numberOf : ℕ → ℕ → ℕ
 numberOf l c = natAbs (entryOf l c)
 
--- table 4 has superior and inferior by turns at four temperatures, table 5 at six pairs
-abbrev pub columnsOf : ℕ → ℕ
-columnsOf table = cond (eqb table 4) 8 12
-
 -- three decimals for methane and, in table 5, hydrogen; two for the other lines
 abbrev pub scaleOf : ℕ → ℕ → ℕ
 scaleOf table l = cond (eqb l 1 || (eqb table 5 && eqb l 41)) 1000 100
@@ -42,11 +38,3 @@ perCubicMetre l c =
     near
     (idealCalorific (10 ^ 6 * numberOf l (getD superiors (c / 2) 0 + c % 2)) (divisor (temperature (getD meterings (c / 2) 0))) * scaleOf 5 l)
     (10 ^ 6)
-
--- the figure of a line in a column of table 4 or 5
-abbrev pub figureOf : ℕ → ℕ → ℕ → ℕ
-figureOf table l c = cond (eqb table 4) (perKilogram l c) (perCubicMetre l c)
-
--- the k-th figure: the lines from 1 on stand one after the other
-abbrev pub figureAt : ℕ → ℕ → ℕ
-figureAt table k = figureOf table (k / columnsOf table + 1) (k % columnsOf table)

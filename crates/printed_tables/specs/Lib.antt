@@ -1,4 +1,6 @@
 pub mod Counts
 pub mod Figures
 pub mod Gas
-pub mod AnnexD
+pub mod TableD1
+pub mod Text
+pub mod Parts

@@ -1,12 +1,84 @@
-// The gas of annex D at 15/15: its sums, and formulas (7) and (9).
+// The gas of annex D at 15/15: table D.1, its sums, and formulas (7) and (9).
 ghost use mathlib.Core.Path.{_≡_};
 ghost use Prim.Native.Nat.{_<_};
 ghost use Rattle.components.specs.Table.{componentTable};
 ghost use Rattle.properties.specs.Chain.{M};
-ghost use Rattle.printed_tables.specs.Gas.{gas, massPart, volumePart, sumsOf};
-use super::numbers;
-use super::table_d1;
+ghost use Rattle.printed_tables.specs.Figures.{numberOf};
+ghost use Rattle.printed_tables.specs.Gas.{gas, lineAt, fractionAt, massPart, volumePart, sumsOf};
+ghost use Rattle.printed_tables.specs.TableD1.{rowWeight, rowScale, rowFigure};
+use super::tables;
 use properties::steps;
+
+// The lines, and their mole fractions in ppm.
+pub const LINES: [u8; 8] = [1, 2, 3, 4, 5, 6, 52, 54];
+
+pub const FRACTIONS: [u32; 8] = [924700, 35000, 9800, 2200, 3400, 600, 17500, 6800];
+
+// The figures M, H, s, x M, x H and x s of each line.
+pub const PRINTED: [[u32; 6]; 8] = [
+    [16043, 89156, 447, 148350, 82443, 4133],
+    [30070, 156214, 922, 10525, 5467, 323],
+    [44097, 222110, 1338, 4322, 2177, 131],
+    [58123, 287976, 1871, 1279, 634, 41],
+    [58123, 287058, 1789, 1976, 976, 61],
+    [72150, 353860, 2510, 433, 212, 15],
+    [280135, 0, 173, 4902, 0, 30],
+    [44010, 0, 748, 2993, 0, 51],
+];
+
+// The columns in the component table, the scales, and how many of the unit make 1.
+const COLUMNS: [usize; 6] = [0, 8, 2, 0, 8, 2];
+
+const SCALES: [u64; 6] = [1000, 100, 10000, 10000, 100, 100000];
+
+const UNITS: [u64; 6] = [10000, 1000, 10000, 10000000000, 1000000000, 10000000000];
+
+// The i-th line's number in a column of the component table, without its sign.
+fn number(table: &[[i32; 12]; 55], i: usize, column: usize) -> u64
+    requires { ⌜ now table ≡ componentTable ⌝ }
+    requires { ⌜ (i < 8) × (column < 12) ⌝ }
+    ensures { λ r. ⌜ r ≡ numberOf (lineAt i) column ⌝ }
+{
+    tables::number(table, LINES[i] as usize, column)
+}
+
+fn fraction(i: usize) -> u64
+    requires { ⌜ i < 8 ⌝ }
+    ensures { λ r. ⌜ r ≡ fractionAt i ⌝ }
+{
+    FRACTIONS[i] as u64
+}
+
+// The scale of the k-th figure. Molar masses have three decimals, and nitrogen's, figure 36, four.
+pub fn scale(k: usize) -> u64
+    ensures { λ r. ⌜ r ≡ rowScale k ⌝ }
+{
+    if k == 36 {
+        return 10000;
+    }
+    SCALES[k % 6]
+}
+
+// What the number of the table is multiplied by: 1 or x.
+fn weight(k: usize) -> u64
+    requires { ⌜ k < 48 ⌝ }
+    ensures { λ r. ⌜ r ≡ rowWeight k ⌝ }
+{
+    if k % 6 < 3 {
+        return 1;
+    }
+    fraction(k / 6)
+}
+
+// The k-th figure as calculated.
+pub fn figure(table: &[[i32; 12]; 55], k: usize) -> u64
+    requires { ⌜ now table ≡ componentTable ⌝ }
+    requires { ⌜ k < 48 ⌝ }
+    ensures { λ r. ⌜ r ≡ rowFigure k ⌝ }
+{
+    let n = number(table, k / 6, COLUMNS[k % 6]);
+    rounding::nearest(weight(k) * n * scale(k), UNITS[k % 6])
+}
 
 // The sums of x H, x M, x s and x, of formula (7), unit 10^-12 MJ/kg, and of formula (9), unit 10^-6 J/m³.
 pub struct Sums {
@@ -24,9 +96,9 @@ fn mass_part(table: &[[i32; 12]; 55], i: usize, total: u64) -> u64
     requires { ⌜ (i < 8) × (total ≡ M gas) ⌝ }
     ensures { λ r. ⌜ r ≡ massPart i ⌝ }
 {
-    let m = numbers::number(table, table_d1::LINES[i], numbers::M);
-    let h = numbers::number(table, table_d1::LINES[i], numbers::H_15);
-    let fraction = rounding::nearest(table_d1::FRACTIONS[i] as u64 * m * 10000000, total);
+    let m = number(table, i, tables::M);
+    let h = number(table, i, tables::H_15);
+    let fraction = rounding::nearest(fraction(i) * m * 10000000, total);
     fraction * rounding::nearest(1000000 * h, m)
 }
 
@@ -36,23 +108,23 @@ fn volume_part(table: &[[i32; 12]; 55], i: usize) -> u64
     requires { ⌜ i < 8 ⌝ }
     ensures { λ r. ⌜ r ≡ volumePart i ⌝ }
 {
-    let h = numbers::number(table, table_d1::LINES[i], numbers::H_15);
-    table_d1::FRACTIONS[i] as u64 * steps::ideal_calorific_value(1000000 * h, steps::divisor(15))
+    let h = number(table, i, tables::H_15);
+    fraction(i) * steps::ideal_calorific_value(1000000 * h, steps::divisor(15))
 }
 
 pub fn sums_of(table: &[[i32; 12]; 55]) -> Sums
     requires { ⌜ now table ≡ componentTable ⌝ }
     ensures { λ r. ⌜ r ≡ sumsOf ⌝ }
 {
-    let sums = components::sums_of(table, &table_d1::LINES, &table_d1::FRACTIONS, 2, 1);
+    let sums = components::sums_of(table, &LINES, &FRACTIONS, 2, 1);
     let m = sums.mass;
-    let s = numbers::size(sums.summation);
+    let s = tables::size(sums.summation);
     let mut x = 0;
     let mut mass = 0;
     let mut volume = 0;
     let mut i = 0;
     while i < 8 {
-        x += table_d1::FRACTIONS[i] as u64;
+        x += fraction(i);
         mass += mass_part(table, i, m);
         volume += volume_part(table, i);
         i += 1;

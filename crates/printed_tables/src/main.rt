@@ -2,18 +2,16 @@
 // figure that is not equal, with its place, how many are equal, one off in the last printed digit and neither, and what is printed in the
 // source and not compared.
 mod annex_d;
-mod figures;
 mod gas;
-mod numbers;
+mod parts;
 mod places;
 mod table_4;
 mod table_5;
-mod table_d1;
 mod tables;
 
 fn main() {
     let table = components::component_table();
-    tables::print_comparison(5, &table, &table_5::FIGURES, 12);
-    tables::print_comparison(4, &table, &table_4::FIGURES, 8);
+    tables::print_comparison(5, parts::Part::Table5, 576, &table);
+    tables::print_comparison(4, parts::Part::Table4, 384, &table);
     annex_d::print_comparison(&table);
 }

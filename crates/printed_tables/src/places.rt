@@ -1,77 +1,102 @@
-// The places of figures, as they are printed.
-use libc::STDOUT_FILENO;
-
-// Where a figure stands: in table 4 or 5 by its number, line and column, in a line of table D.1, or in the text of annex D. In annex D
-// it has a name beside its place.
-pub enum Place {
-    Table(u8, u8, usize),
-    TableD1(u8),
-    Text,
-}
-
-pub fn put(text: &[u8]) {
-    io::write_all(STDOUT_FILENO, text);
-}
-
-pub fn put_number(n: u64) {
-    io::print_decimal(STDOUT_FILENO, n);
-}
+// The figures that differ, as they are printed with their places.
+use super::annex_d;
+use super::gas;
+use super::parts::Part;
+use super::tables;
+use report::print_number;
+use report::print_text;
 
 pub fn print_table(number: u8) {
-    put(b"table ");
-    put_number(number as u64);
+    print_text(b"table ");
+    print_number(number as u64);
 }
 
 // The conditions of a column of table 5, and after them those of table 4.
-fn print_conditions(k: usize) {
+fn print_conditions(k: usize) -> bool {
     match k {
-        0 => put(b"15/15"),
-        1 => put(b"0/0"),
-        2 => put(b"15/0"),
-        3 => put(b"25/0"),
-        4 => put(b"20/20"),
-        5 => put(b"25/20"),
-        6 => put(b"25"),
-        7 => put(b"20"),
-        8 => put(b"15"),
-        _ => put(b"0"),
+        0 => print_text(b"15/15"),
+        1 => print_text(b"0/0"),
+        2 => print_text(b"15/0"),
+        3 => print_text(b"25/0"),
+        4 => print_text(b"20/20"),
+        5 => print_text(b"25/20"),
+        6 => print_text(b"25"),
+        7 => print_text(b"20"),
+        8 => print_text(b"15"),
+        _ => print_text(b"0"),
     }
 }
 
-fn print_column(number: u8, column: usize) {
+// The place of a figure of table 4 or 5. The columns are superior and inferior by turns.
+fn print_cell(number: u8, line: usize, column: usize, conditions: usize) {
+    print_table(number);
+    print_text(b", line ");
+    print_number(line as u64);
     if column % 2 == 0 {
-        put(b"superior, ");
+        print_text(b", superior, ");
     } else {
-        put(b"inferior, ");
+        print_text(b", inferior, ");
     }
-    if number == 4 {
-        print_conditions(6 + column / 2);
-    } else {
-        print_conditions(column / 2);
+    print_conditions(conditions);
+}
+
+fn print_place(part: Part, k: usize) {
+    match part {
+        Part::Table4 => print_cell(4, k / 8 + 1, k % 8, 6 + k % 8 / 2),
+        Part::Table5 => print_cell(5, k / 12 + 1, k % 12, k % 12 / 2),
+        Part::TableD1 => {
+            print_text(b"annex D, table D.1, row ");
+            print_number(k as u64 / 6 + 1);
+            print_text(b", column ");
+            print_number(k as u64 % 6 + 1);
+        }
+        Part::Text => {
+            print_text(b"annex D, ");
+            annex_d::print_name(k);
+        }
     }
 }
 
-fn print_line(line: u8) {
-    put(b", line ");
-    put_number(line as u64);
-    put(b", ");
+// A figure stands beside its scale: 1000 for three decimals.
+fn scale(part: Part, k: usize) -> u64 {
+    match part {
+        Part::Table4 => tables::scale(4, k / 8 + 1),
+        Part::Table5 => tables::scale(5, k / 12 + 1),
+        Part::TableD1 => gas::scale(k),
+        Part::Text => annex_d::SCALES[k / 6 % 5][k % 6],
+    }
 }
 
-pub fn print_place(place: Place, name: &[u8]) {
-    match place {
-        Place::Table(number, line, column) => {
-            print_table(number);
-            print_line(line);
-            print_column(number, column);
-        }
-        Place::TableD1(line) => {
-            put(b"annex D, table D.1");
-            print_line(line);
-            put(name);
-        }
-        Place::Text => {
-            put(b"annex D, ");
-            put(name);
-        }
+// The digit at a decimal place; there is none below the last.
+fn print_digit(digits: u64, place: u64) {
+    if place > 0 {
+        print_number(digits / place % 10);
     }
+}
+
+// A figure with its decimal point, of at most five decimals.
+fn print_figure(digits: u64, scale: u64) {
+    if scale > 0 {
+        print_number(digits / scale);
+    }
+    print_text(b".");
+    print_digit(digits, scale / 10);
+    print_digit(digits, scale / 100);
+    print_digit(digits, scale / 1000);
+    print_digit(digits, scale / 10000);
+    print_digit(digits, scale / 100000);
+}
+
+// Prints the k-th figure of a part where its digits as printed and as calculated differ.
+pub fn report(part: Part, k: usize, printed: u64, calculated: u64) {
+    if printed == calculated {
+        return;
+    }
+    let scale = scale(part, k);
+    print_place(part, k);
+    print_text(b": printed ");
+    print_figure(printed, scale);
+    print_text(b", calculated ");
+    print_figure(calculated, scale);
+    print_text(b"\n");
 }

@@ -1,14 +1,43 @@
-// Tables 4 and 5: the ideal calorific value per kilogram and per cubic metre of the lines 1 to 48, superior and inferior by turns.
+// Tables 4 and 5: the ideal calorific value per kilogram and per cubic metre of the lines 1 to 48, superior and inferior by turns. They
+// are calculated from the numbers of the component table.
 ghost use mathlib.Core.Path.{_≡_};
-ghost use Prim.Native.Nat.{_*_, _≤_, _<_};
-ghost use lib.ListN.{length};
+ghost use Prim.Native.Nat.{_≤_, _<_};
+ghost use lib.IntN.{natAbs};
 ghost use Rattle.components.specs.Table.{componentTable};
-ghost use Rattle.printed_tables.specs.Counts.{countsOf};
-ghost use Rattle.printed_tables.specs.Figures.{columnsOf, scaleOf, perKilogram, perCubicMetre, figureOf, figureAt};
-use super::figures;
-use super::numbers;
+ghost use Rattle.printed_tables.specs.Figures.{numberOf, scaleOf, perKilogram, perCubicMetre};
+ghost use Rattle.printed_tables.specs.Parts.{figuresIn};
+use super::parts;
+use super::parts::Counts;
+use super::parts::Part;
 use super::places;
 use properties::steps;
+use report::print_text;
+
+// The columns of the component table: m, and superior h at 25 and 15 °C.
+pub const M: usize = 0;
+
+pub const H_25: usize = 4;
+
+pub const H_15: usize = 8;
+
+pub fn size(n: i64) -> u64
+    requires { ⌜ natAbs n ≤ 10000000000 ⌝ }
+    ensures { λ r. ⌜ r ≡ natAbs n ⌝ }
+{
+    if n < 0 {
+        return (-n) as u64;
+    }
+    n as u64
+}
+
+// A number of the component table, without its sign.
+pub fn number(table: &[[i32; 12]; 55], line: usize, column: usize) -> u64
+    requires { ⌜ now table ≡ componentTable ⌝ }
+    requires { ⌜ (1 ≤ line) × (line ≤ 55) × (column < 12) ⌝ }
+    ensures { λ r. ⌜ r ≡ numberOf line column ⌝ }
+{
+    size(components::entry(table, line as u8, column) as i64)
+}
 
 // The conditions of table 5, 15/15, 0/0, 15/0, 25/0, 20/20 and 25/20: the column of superior h, and the metering temperature, °C.
 const SUPERIOR: [usize; 6] = [8, 10, 8, 4, 6, 4];
@@ -16,7 +45,7 @@ const SUPERIOR: [usize; 6] = [8, 10, 8, 4, 6, 4];
 const METERING: [u8; 6] = [15, 0, 0, 0, 20, 20];
 
 // Three decimals for methane and, in table 5, hydrogen; two for the other lines.
-fn scale(number: u8, line: u8) -> u64
+pub fn scale(number: u8, line: usize) -> u64
     ensures { λ r. ⌜ r ≡ scaleOf number line ⌝ }
 {
     if (line == 1) | ((number == 5) & (line == 41)) {
@@ -26,67 +55,36 @@ fn scale(number: u8, line: u8) -> u64
 }
 
 // The figures of a line in a column.
-fn per_kilogram(table: &[[i32; 12]; 55], line: u8, column: usize) -> u64
+pub fn per_kilogram(table: &[[i32; 12]; 55], line: usize, column: usize) -> u64
     requires { ⌜ now table ≡ componentTable ⌝ }
     requires { ⌜ (1 ≤ line) × (line ≤ 55) × (column < 8) ⌝ }
     ensures { λ r. ⌜ r ≡ perKilogram line column ⌝ }
 {
-    let h = numbers::number(table, line, numbers::H_25 + column);
-    let m = numbers::number(table, line, numbers::M);
+    let h = number(table, line, H_25 + column);
+    let m = number(table, line, M);
     rounding::nearest(10 * h * scale(4, line), m)
 }
 
-fn per_cubic_metre(table: &[[i32; 12]; 55], line: u8, column: usize) -> u64
+pub fn per_cubic_metre(table: &[[i32; 12]; 55], line: usize, column: usize) -> u64
     requires { ⌜ now table ≡ componentTable ⌝ }
     requires { ⌜ (1 ≤ line) × (line ≤ 55) × (column < 12) ⌝ }
     ensures { λ r. ⌜ r ≡ perCubicMetre line column ⌝ }
 {
-    let h = numbers::number(table, line, SUPERIOR[column / 2] + column % 2);
+    let h = number(table, line, SUPERIOR[column / 2] + column % 2);
     let divisor = steps::divisor(METERING[column / 2]);
     let value = steps::ideal_calorific_value(1000000 * h, divisor);
     rounding::nearest(value * scale(5, line), 1000000)
 }
 
-fn calculated(number: u8, table: &[[i32; 12]; 55], line: u8, column: usize) -> u64
+pub fn print_comparison(number: u8, part: Part, n: usize, table: &[[i32; 12]; 55])
     requires { ⌜ now table ≡ componentTable ⌝ }
-    requires { ⌜ (1 ≤ line) × (line ≤ 55) × (column < columnsOf number) ⌝ }
-    ensures { λ r. ⌜ r ≡ figureOf number line column ⌝ }
+    requires { ⌜ n ≡ figuresIn part ⌝ }
 {
-    if number == 4 {
-        return per_kilogram(table, line, column);
-    }
-    per_cubic_metre(table, line, column)
-}
-
-// All figures of a table, which stand line after line.
-fn compare(number: u8, table: &[[i32; 12]; 55], figures: &[u32], columns: usize) -> figures::Counts
-    requires { ⌜ now table ≡ componentTable ⌝ }
-    requires { ⌜ (columns ≡ columnsOf number) × (length (now figures) ≡ 48 * columns) ⌝ }
-    ensures { λ r. ⌜ r ≡ countsOf (now (figures .entry)) (figureAt number) (length (now (figures .entry))) ⌝ }
-{
-    let mut counts = figures::Counts::new();
-    let mut i = 0;
-    while i < figures.len() {
-        let line = (i / columns) as u8 + 1;
-        let column = i % columns;
-        let place = places::Place::Table(number, line, column);
-        let calculated = calculated(number, table, line, column);
-        let scale = scale(number, line);
-        counts = figures::compare(counts, place, b"", figures[i] as u64, scale, calculated);
-        i += 1;
-    }
-    counts
-}
-
-pub fn print_comparison(number: u8, table: &[[i32; 12]; 55], figures: &[u32], columns: usize)
-    requires { ⌜ now table ≡ componentTable ⌝ }
-    requires { ⌜ (columns ≡ columnsOf number) × (length (now figures) ≡ 48 * columns) ⌝ }
-{
-    let counts = compare(number, table, figures, columns);
+    let counts = parts::count(Counts::new(), part, n, table, &[[0; 6]; 5]);
     places::print_table(number);
-    places::put(b": ");
+    print_text(b": ");
     counts.print();
-    places::put(b"not compared: the names of ");
+    print_text(b"not compared: the names of ");
     places::print_table(number);
-    places::put(b"; it has no lines 49 to 55\n");
+    print_text(b"; it has no lines 49 to 55\n");
 }

@@ -10,12 +10,13 @@ use mir.Facts.{toZ-ofZ}
 use Rattle.rounding.proofs.SignedWords.{fits64}
 use Rattle.properties.specs.Chain.{HmSuperior, M, S}
 use Rattle.printed_tables.specs.Gas.{gas, fractionAt, massPart, volumePart, sumTo}
-use Rattle.printed_tables.proofs.GasLaws.{composition, h-is, m-is, s-is, s-value, fraction-high, fraction-low, mass-part-high, volume-part-high, sum-step, sum-high}
+use Rattle.printed_tables.proofs.GasLaws.{composition, h-is, m-is, s-is, s-value, fraction-low, mass-part-high, volume-part-high, sum-step, sum-high}
 use Rattle.printed_tables.proofs.gas.sums_of.Statement.{statement}
 use Rattle.printed_tables.proofs.gas.sums_of.Tie as tie
 
 abbrev Inv-loop : tie.InvT-loop
-Inv-loop table sums m s x₀ mass₀ volume₀ i₀ x mass volume i = (i ≤ 8) × (x ≡ sumTo i fractionAt) × (mass ≡ sumTo i massPart) × (volume ≡ sumTo i volumePart)
+Inv-loop table sums m s x₀ mass₀ volume₀ i₀ x mass volume i =
+    (i ≤ 8) × (x ≡ sumTo i fractionAt) × (mass ≡ sumTo i massPart) × (volume ≡ sumTo i volumePart)
 
 abbrev μ-loop : tie.MeasureT-loop
 μ-loop table sums m s x₀ mass₀ volume₀ i₀ x mass volume i = 8 - i
@@ -33,55 +34,22 @@ module _ (c : tie.After-sums-of Inv-loop μ-loop) where
   s-read : toZ w64 (ofZ w64 (c .sums-of .result .summation)) ≡ S gas
   s-read = rw s-sum (toZ-ofZ (fits64 (S gas) (omega (arith, s-value))))
 
-slice-aggregate-sums-of : tie.Need-slice-aggregate-sums-of Inv-loop μ-loop
-slice-aggregate-sums-of c = search needs
-
-slice-aggregate-sums-of-2 : tie.Need-slice-aggregate-sums-of-2 Inv-loop μ-loop
-slice-aggregate-sums-of-2 c = search needs
-
-sums-of-requires : tie.Need-sums-of-requires Inv-loop μ-loop
-sums-of-requires c κs = (c .before .before .pre, (composition, (omega arith, omega arith)))
-
-size-requires : tie.Need-size-requires Inv-loop μ-loop
-size-requires c κs = omega (arith, ap natAbs (s-read (c .before)), s-value)
-
 loop-holds : tie.Need-loop-holds Inv-loop μ-loop
 unfolding sumTo
 loop-holds c = (omega arith, refl, refl, refl)
 
-mul-x : tie.Need-mul-x Inv-loop μ-loop
-mul-x c = search needs
-
-array-read-x : tie.Need-array-read-x Inv-loop μ-loop
-array-read-x c = search needs
-
-cast-x : tie.Need-cast-x Inv-loop μ-loop
-cast-x c = record { fits = omega (arith, fraction-high _ (c .loop-test .taken)) }
-
 add-x : tie.Need-add-x Inv-loop μ-loop
-add-x c = record { fits = omega (arith, fraction-high _ (c .loop-test .taken), sum-high fractionAt fraction-low (c .before .loop .i) (omega arith)) }
-
-mass-part-requires : tie.Need-mass-part-requires Inv-loop μ-loop
-mass-part-requires c κs = (c .before .before .before .before .before .before .before .pre, (c .loop-test .taken, m-sum (c .before .before .before .before)))
+add-x c = let h = c .before .loop-test .taken in record { fits = omega (arith, c .fraction .ensures, fraction-low _ h, sum-high fractionAt fraction-low (c .before .before .loop .i) (omega arith)) }
 
 add-mass : tie.Need-add-mass Inv-loop μ-loop
-add-mass c = let h = c .before .loop-test .taken in record { fits = omega (arith, c .mass-part .ensures, mass-part-high _ h, sum-high massPart mass-part-high (c .before .before .loop .i) (omega arith)) }
-
-volume-part-requires : tie.Need-volume-part-requires Inv-loop μ-loop
-volume-part-requires c κs = (c .before .before .before .before .before .before .before .before .pre, c .before .loop-test .taken)
+add-mass c = let h = c .before .before .loop-test .taken in record { fits = omega (arith, c .mass-part .ensures, mass-part-high _ h, sum-high massPart mass-part-high (c .before .before .before .loop .i) (omega arith)) }
 
 add-volume : tie.Need-add-volume Inv-loop μ-loop
-add-volume c = let h = c .before .before .loop-test .taken in record { fits = omega (arith, c .volume-part .ensures, volume-part-high _ h, sum-high volumePart volume-part-high (c .before .before .before .loop .i) (omega arith)) }
-
-add-i : tie.Need-add-i Inv-loop μ-loop
-add-i c = search needs
-
-loop-less : tie.Need-loop-less Inv-loop μ-loop
-loop-less c = search needs
+add-volume c = let h = c .before .before .before .loop-test .taken in record { fits = omega (arith, c .volume-part .ensures, volume-part-high _ h, sum-high volumePart volume-part-high (c .before .before .before .before .loop .i) (omega arith)) }
 
 loop-again : tie.Need-loop-again Inv-loop μ-loop
-loop-again c = let inv = c .before .before .before .loop .inv in
-    (omega arith, rw (sum-step _ _, inv .1), rw (sum-step _ _, c .before .mass-part .ensures, inv .2), rw (sum-step _ _, c .volume-part .ensures, inv .3))
+loop-again c = let inv = c .before .before .before .before .loop .inv in
+    (omega arith, rw (sum-step _ _, c .before .before .fraction .ensures, inv .1), rw (sum-step _ _, c .before .mass-part .ensures, inv .2), rw (sum-step _ _, c .volume-part .ensures, inv .3))
 
 returns : tie.Need-returns Inv-loop μ-loop
 returns c = let e : c .before .loop .i ≡ 8 = omega arith in
@@ -95,20 +63,18 @@ sums-of-spec =
     (tie.spec
     Inv-loop
     μ-loop
-    slice-aggregate-sums-of
-    slice-aggregate-sums-of-2
-    sums-of-requires
-    size-requires
+    (λ c. search needs)
+    (λ c. search needs)
+    (λ c κs. (c .before .before .pre, (composition, (omega arith, omega arith))))
+    (λ c κs. omega (arith, ap natAbs (s-read (c .before)), s-value))
     loop-holds
-    mul-x
-    array-read-x
-    cast-x
+    (λ c κs. search needs)
     add-x
-    mass-part-requires
+    (λ c κs. (c .before .before .before .before .before .before .before .before .pre, (c .before .loop-test .taken, m-sum (c .before .before .before .before .before))))
     add-mass
-    volume-part-requires
+    (λ c κs. (c .before .before .before .before .before .before .before .before .before .pre, c .before .before .loop-test .taken))
     add-volume
-    add-i
-    loop-less
+    (λ c. search needs)
+    (λ c. search needs)
     loop-again
     returns)

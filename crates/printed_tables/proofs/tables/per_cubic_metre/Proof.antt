@@ -3,18 +3,16 @@ use Prim.Native.Nat.{ℕ, _*_, _/_, _≤_, _<_}
 use native.Mathlib.Nat.{mul-le-mul}
 use native.Mathlib.Omega.{arith}
 use borrow.Author.Needs.{needs}
-use lib.Dec.{leb, leb→le}
 use lib.ListN.{getD}
-use Rattle.rounding.proofs.NearLaws.{at-most}
-use Rattle.components.proofs.Every.{at}
+use Rattle.rounding.proofs.NearLaws as near
 use Rattle.properties.proofs.StepBounds.{temperature-low, calorific-near}
 use Rattle.printed_tables.specs.Figures.{superiors, meterings}
-use Rattle.printed_tables.proofs.NumberLaws.{product-high, product-fits, scale-range}
+use Rattle.printed_tables.proofs.NumberLaws.{at-most, product-high, product-fits, scale-high}
 use Rattle.printed_tables.proofs.tables.per_cubic_metre.Statement.{statement}
 use Rattle.printed_tables.proofs.tables.per_cubic_metre.Tie as tie
 
 superior-high : (k : ℕ) → k < 6 → getD superiors k 0 ≤ 10
-superior-high k h = leb→le _ _ (at (λ (k : ℕ). leb (getD superiors k 0) 10) 6 tt k h)
+superior-high = at-most (λ (k : ℕ). getD superiors k 0) 10 6 tt
 
 module _ (c : tie.After-divisor) where
   heat-high : 1000000 * c .before .number .result ≤ 6842690000000
@@ -26,42 +24,16 @@ module _ (c : tie.After-divisor) where
 value-high : (c : tie.After-ideal-calorific-value) → c .ideal-calorific-value .result ≤ 500000000
 value-high c =
     let d = divisor-low (c .before) in
-    let near = calorific-near (1000000 * c .before .before .number .result) (c .before .divisor .result) (omega arith) in
-    omega (arith, c .ideal-calorific-value .ensures, at-most {b = 500000000} near (omega (arith, heat-high (c .before))))
-
-mul-number : tie.Need-mul-number
-mul-number c = search needs
-
-array-read-number : tie.Need-array-read-number
-array-read-number c = search needs
-
-add-number : tie.Need-add-number
-add-number c = record { fits = omega (arith, superior-high (c .args .column / 2) (omega arith)) }
+    let close = calorific-near (1000000 * c .before .before .number .result) (c .before .divisor .result) (omega arith) in
+    omega (arith, c .ideal-calorific-value .ensures, near.at-most {b = 500000000} close (omega (arith, heat-high (c .before))))
 
 number-requires : tie.Need-number-requires
 number-requires c κs = (c .pre .0, (c .pre .1 .0, c .pre .1 .1, omega (arith, superior-high (c .args .column / 2) (omega arith))))
 
-array-read-divisor : tie.Need-array-read-divisor
-array-read-divisor c = search needs
-
-divisor-requires : tie.Need-divisor-requires
-divisor-requires c κs = search needs
-
-mul-ideal-calorific-value : tie.Need-mul-ideal-calorific-value
-mul-ideal-calorific-value c = product-fits _ _ (omega arith) (c .before .number .ensures)
-
-ideal-calorific-value-requires : tie.Need-ideal-calorific-value-requires
-ideal-calorific-value-requires c κs = (omega (arith, heat-high c), omega (arith, divisor-low c))
-
-scale-requires : tie.Need-scale-requires
-scale-requires c κs = search needs
-
 mul-nearest : tie.Need-mul-nearest
-mul-nearest c = let high : c .scale .result ≤ 1000 = omega (arith, c .scale .ensures, scale-range 5 (c .before .before .before .before .args .line) .1) in
+mul-nearest c =
+    let high : c .scale .result ≤ 1000 = omega (arith, c .scale .ensures, scale-high 5 (c .before .before .before .before .args .line)) in
     record { fits = omega (arith, mul-le-mul (value-high (c .before)) high) }
-
-nearest-requires : tie.Need-nearest-requires
-nearest-requires c κs = search needs
 
 returns : tie.Need-returns
 returns c = rw (c .nearest .ensures, c .before .scale .ensures, c .before .before .ideal-calorific-value .ensures, c .before .before .before .divisor .ensures, c .before .before .before .before .number .ensures)
@@ -70,15 +42,15 @@ pub per-cubic-metre-spec : {M : Type 1} → statement M
 per-cubic-metre-spec =
     tie.close
     (tie.spec
-    mul-number
-    array-read-number
-    add-number
+    (λ c. search needs)
+    (λ c. search needs)
+    (λ c. record { fits = omega (arith, superior-high (c .args .column / 2) (omega arith)) })
     number-requires
-    array-read-divisor
-    divisor-requires
-    mul-ideal-calorific-value
-    ideal-calorific-value-requires
-    scale-requires
+    (λ c. search needs)
+    (λ c κs. search needs)
+    (λ c. product-fits _ _ (omega arith) (c .before .number .ensures))
+    (λ c κs. (omega (arith, heat-high c), omega (arith, divisor-low c)))
+    (λ c κs. search needs)
     mul-nearest
-    nearest-requires
+    (λ c κs. search needs)
     returns)

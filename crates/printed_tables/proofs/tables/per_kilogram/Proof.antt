@@ -3,31 +3,18 @@ use Prim.Native.Nat.{_≤_}
 use native.Mathlib.Nat.{mul-le-mul}
 use native.Mathlib.Omega.{arith}
 use borrow.Author.Needs.{needs}
-use Rattle.printed_tables.proofs.NumberLaws.{mass-above, product-high, product-fits, scale-range}
+use Rattle.printed_tables.proofs.NumberLaws.{mass-above, product-high, product-fits, scale-high}
 use Rattle.printed_tables.proofs.tables.per_kilogram.Statement.{statement}
 use Rattle.printed_tables.proofs.tables.per_kilogram.Tie as tie
 
-add-number : tie.Need-add-number
-add-number c = search needs
-
-number-requires : tie.Need-number-requires
-number-requires c κs = search needs
-
-number-requires-2 : tie.Need-number-requires-2
-number-requires-2 c κs = search needs
-
-mul-nearest : tie.Need-mul-nearest
-mul-nearest c = product-fits _ _ (omega arith) (c .before .number .ensures)
-
-scale-requires : tie.Need-scale-requires
-scale-requires c κs = search needs
-
 mul-nearest-2 : tie.Need-mul-nearest-2
-mul-nearest-2 c = let high : c .scale .result ≤ 1000 = omega (arith, c .scale .ensures, scale-range 4 (c .before .before .before .args .line) .1) in
+mul-nearest-2 c =
+    let high : c .scale .result ≤ 1000 = omega (arith, c .scale .ensures, scale-high 4 (c .before .before .before .args .line)) in
     record { fits = omega (arith, mul-le-mul (product-high _ _ {x = 10} (omega arith) (c .before .before .number .ensures)) high) }
 
 nearest-requires : tie.Need-nearest-requires
-nearest-requires c κs = let s = c .before .before .before in omega (arith, c .before .number2 .ensures, mass-above _ (s .pre .1 .0) (s .pre .1 .1))
+nearest-requires c κs =
+    let s = c .before .before .before in omega (arith, c .before .number2 .ensures, mass-above _ (s .pre .1 .0) (s .pre .1 .1))
 
 returns : tie.Need-returns
 returns c = rw (c .nearest .ensures, c .before .scale .ensures, c .before .before .number2 .ensures, c .before .before .before .number .ensures)
@@ -36,11 +23,11 @@ pub per-kilogram-spec : {M : Type 1} → statement M
 per-kilogram-spec =
     tie.close
     (tie.spec
-    add-number
-    number-requires
-    number-requires-2
-    mul-nearest
-    scale-requires
+    (λ c. search needs)
+    (λ c κs. search needs)
+    (λ c κs. search needs)
+    (λ c. product-fits _ _ (omega arith) (c .before .number .ensures))
+    (λ c κs. search needs)
     mul-nearest-2
     nearest-requires
     returns)

@@ -1,0 +1,50 @@
+-- The calculated figures of annex D after the rows of table D.1, six to a row: the last row of table D.1, and D.1 to D.4.3.
+use mathlib.Core.List.{List, [], _∷_}
+use Prim.Native.Nat.{ℕ, _*_, _/_, _%_, _^_}
+use lib.ListN.{getD}
+use Rattle.rounding.specs.Near.{near}
+use Rattle.properties.specs.Chain.{D, Six, idealCalorific, idealDensity, idealRelative, rootOf, wobbe}
+use Rattle.printed_tables.specs.Gas.{gas, sumsOf}
+
+-- the ideal values: H per kilogram, J/kg, and per cubic metre, relative density, with 1 for the compression factor of air, density and W
+unfoldable pub idealHm : ℕ
+idealHm = near (10 ^ 7 * sumsOf .h) (sumsOf .m)
+
+unfoldable pub idealH : ℕ
+idealH = idealCalorific (sumsOf .h) (D gas)
+
+unfoldable pub idealD : ℕ
+idealD = idealRelative (sumsOf .m) 100000
+
+unfoldable pub idealRho : ℕ
+idealRho = idealDensity (sumsOf .m) (D gas)
+
+unfoldable pub idealW : ℕ
+idealW = wobbe idealH (rootOf idealD)
+
+-- the values, with the six properties of the gas
+abbrev pub textValues : Six → List (List ℕ)
+textValues p =
+    (sumsOf .x ∷ sumsOf .m ∷ sumsOf .h ∷ sumsOf .s ∷ sumsOf .h ∷ idealHm ∷ [])
+    ∷ (idealHm ∷ sumsOf .mass ∷ idealH ∷ idealH ∷ sumsOf .volume ∷ sumsOf .s ∷ [])
+    ∷ (p .Z ∷ p .Z ∷ p .Hs ∷ p .Hs ∷ idealD ∷ idealD ∷ [])
+    ∷ (p .d ∷ p .d ∷ idealRho ∷ idealRho ∷ p .rho ∷ p .rho ∷ [])
+    ∷ (idealW ∷ idealW ∷ p .W ∷ p .W ∷ p .W ∷ 0 ∷ [])
+    ∷ []
+
+-- how many of a value's unit make one in the last printed digit
+abbrev pub textSteps : List (List ℕ)
+textSteps =
+    (10 ^ 2 ∷ 10 ^ 7 ∷ 10 ^ 7 ∷ 10 ^ 5 ∷ 10 ^ 7 ∷ 10 ^ 3 ∷ [])
+    ∷ (10 ^ 4 ∷ 10 ^ 10 ∷ 10 ^ 3 ∷ 10 ^ 4 ∷ 10 ^ 10 ∷ 10 ^ 5 ∷ [])
+    ∷ (10 ^ 4 ∷ 10 ^ 5 ∷ 10 ^ 3 ∷ 10 ^ 4 ∷ 10 ^ 3 ∷ 10 ^ 4 ∷ [])
+    ∷ (10 ^ 3 ∷ 10 ^ 4 ∷ 10 ^ 3 ∷ 10 ^ 4 ∷ 10 ^ 3 ∷ 10 ^ 4 ∷ [])
+    ∷ (10 ^ 3 ∷ 10 ^ 4 ∷ 10 ^ 3 ∷ 10 ^ 4 ∷ 10 ^ 4 ∷ 1 ∷ [])
+    ∷ []
+
+-- the k-th of a list of rows of six
+abbrev pub ofSix : List (List ℕ) → ℕ → ℕ
+ofSix rows k = getD (getD rows (k / 6) []) (k % 6) 0
+
+abbrev pub textFigure : List (List ℕ) → ℕ → ℕ
+textFigure values k = near (ofSix values k) (ofSix textSteps k)
