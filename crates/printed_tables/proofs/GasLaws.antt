@@ -12,7 +12,7 @@ use Rattle.properties.specs.Chain.{HmSuperior, M, S, D, T}
 use Rattle.printed_tables.specs.declared.gas.Sums.{Sums}
 use Rattle.printed_tables.specs.Gas.{gas, lineAt, fractionAt, massPart, volumePart, sumTo, sumsOf}
 use Rattle.printed_tables.specs.TableD1.{rowColumns, rowWeight, rowScale, rowUnits}
-use Rattle.printed_tables.specs.Text.{textSteps, ofSix, idealH, idealD}
+use Rattle.printed_tables.specs.Text.{textSteps, idealH, idealD}
 use Rattle.printed_tables.proofs.NumberLaws.{at-most, at-least}
 
 pub line-in : (k : ℕ) → k < 8 → (1 ≤ lineAt k) × (lineAt k ≤ 55)
@@ -100,5 +100,5 @@ row-scale-high = at-most rowScale 100000 48 tt
 pub unit-above : (k : ℕ) → k < 6 → 1 ≤ getD rowUnits k 0
 unit-above = at-least (λ (k : ℕ). getD rowUnits k 0) 1 6 tt
 
-pub step-above : (k : ℕ) → k < 29 → 1 ≤ ofSix textSteps k
-step-above = at-least (ofSix textSteps) 1 29 tt
+pub step-above : (k : ℕ) → k < 29 → 1 ≤ getD textSteps k 0
+step-above = at-least (λ (k : ℕ). getD textSteps k 0) 1 29 tt

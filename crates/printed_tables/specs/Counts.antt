@@ -1,7 +1,9 @@
 -- How many figures are equal, one off in the last printed digit, and neither.
 use mathlib.Core.Bool.{Bool, cond}
-use Prim.Native.Nat.{ℕ, _+_, _-_, _%_, _^_}
+use mathlib.Core.List.{List}
+use Prim.Native.Nat.{ℕ, zero, suc, _+_, _-_, _%_, _^_}
 use lib.Dec.{eqb, ltb}
+use lib.ListN.{getD}
 use Rattle.printed_tables.specs.declared.parts.Counts.{Counts}
 
 abbrev pub distance : ℕ → ℕ → ℕ
@@ -23,3 +25,8 @@ counted c printed calculated =
       «one_off» = more (c .«one_off») (eqb off 1);
       otherwise = more (c .otherwise) (ltb 1 off);
     }
+
+-- with the first n of a list of printed figures more, where the k-th is calculated as f k
+unfoldable pub countsOf : Counts → List ℕ → (ℕ → ℕ) → ℕ → Counts
+countsOf c printed f zero = c
+countsOf c printed f (suc n) = counted (countsOf c printed f n) (getD printed n 0) (f n)

@@ -33,18 +33,13 @@ textValues p =
     ∷ []
 
 -- how many of a value's unit make one in the last printed digit
-abbrev pub textSteps : List (List ℕ)
+abbrev pub textSteps : List ℕ
 textSteps =
-    (10 ^ 2 ∷ 10 ^ 7 ∷ 10 ^ 7 ∷ 10 ^ 5 ∷ 10 ^ 7 ∷ 10 ^ 3 ∷ [])
-    ∷ (10 ^ 4 ∷ 10 ^ 10 ∷ 10 ^ 3 ∷ 10 ^ 4 ∷ 10 ^ 10 ∷ 10 ^ 5 ∷ [])
-    ∷ (10 ^ 4 ∷ 10 ^ 5 ∷ 10 ^ 3 ∷ 10 ^ 4 ∷ 10 ^ 3 ∷ 10 ^ 4 ∷ [])
-    ∷ (10 ^ 3 ∷ 10 ^ 4 ∷ 10 ^ 3 ∷ 10 ^ 4 ∷ 10 ^ 3 ∷ 10 ^ 4 ∷ [])
-    ∷ (10 ^ 3 ∷ 10 ^ 4 ∷ 10 ^ 3 ∷ 10 ^ 4 ∷ 10 ^ 4 ∷ 1 ∷ [])
+    10 ^ 2 ∷ 10 ^ 7 ∷ 10 ^ 7 ∷ 10 ^ 5 ∷ 10 ^ 7 ∷ 10 ^ 3 ∷ 10 ^ 4 ∷ 10 ^ 10
+    ∷ 10 ^ 3 ∷ 10 ^ 4 ∷ 10 ^ 10 ∷ 10 ^ 5 ∷ 10 ^ 4 ∷ 10 ^ 5 ∷ 10 ^ 3 ∷ 10 ^ 4
+    ∷ 10 ^ 3 ∷ 10 ^ 4 ∷ 10 ^ 3 ∷ 10 ^ 4 ∷ 10 ^ 3 ∷ 10 ^ 4 ∷ 10 ^ 3 ∷ 10 ^ 4 ∷ 10 ^ 3 ∷ 10 ^ 4 ∷ 10 ^ 3 ∷ 10 ^ 4 ∷ 10 ^ 4
     ∷ []
 
--- the k-th of a list of rows of six
-abbrev pub ofSix : List (List ℕ) → ℕ → ℕ
-ofSix rows k = getD (getD rows (k / 6) []) (k % 6) 0
-
+-- the k-th figure, from values that stand six to a row
 abbrev pub textFigure : List (List ℕ) → ℕ → ℕ
-textFigure values k = near (ofSix values k) (ofSix textSteps k)
+textFigure values k = near (getD (getD values (k / 6) []) (k % 6) 0) (getD textSteps k 0)

@@ -7,8 +7,10 @@ ghost use Rattle.printed_tables.specs.Gas.{sumsOf};
 ghost use Rattle.printed_tables.specs.Text.{textValues, textFigure};
 use super::gas;
 use super::parts;
-use super::parts::Counts;
 use super::parts::Part;
+use super::table_d1;
+use super::tables::Table;
+use super::text;
 use properties::Answer;
 use properties::Properties;
 use properties::quantities::CalorificValue;
@@ -16,34 +18,10 @@ use properties::quantities::RelativeDensity;
 use properties::steps;
 use report::print_text;
 
-// Of the figures after the rows of table D.1, six to a row: the last row of table D.1, and D.1 to D.4.3.
+// The values of the figures of the text, six to a row.
 pub type Values = [[u64; 6]; 5];
 
-pub const PRINTED: [[u32; 6]; 5] = [
-    [10000, 17478, 91909, 4785, 91909, 52586],
-    [5259, 5259, 38870, 3887, 3887, 4785],
-    [99771, 9977, 38959, 3896, 60347, 6035],
-    [60460, 6046, 73918, 7392, 74088, 7409],
-    [50036, 5004, 50104, 5010, 5011, 0],
-];
-
-pub const SCALES: [[u64; 6]; 5] = [
-    [10000, 1000, 100, 100000, 100, 1000],
-    [100, 100, 1000, 100, 100, 100000],
-    [100000, 10000, 1000, 100, 100000, 10000],
-    [100000, 10000, 100000, 10000, 100000, 10000],
-    [1000, 100, 1000, 100, 100, 1],
-];
-
-// How many of a value's unit make one in the last printed digit.
-const STEPS: Values = [
-    [100, 10000000, 10000000, 100000, 10000000, 1000],
-    [10000, 10000000000, 1000, 10000, 10000000000, 100000],
-    [10000, 100000, 1000, 10000, 1000, 10000],
-    [1000, 10000, 1000, 10000, 1000, 10000],
-    [1000, 10000, 1000, 10000, 10000, 1],
-];
-
+// The names of the figures of the text, and after them those of the columns of table D.1.
 pub fn print_name(k: usize) -> bool {
     match k {
         0 => print_text(b"table D.1, total x"),
@@ -64,7 +42,13 @@ pub fn print_name(k: usize) -> bool {
         22 | 23 => print_text(b"D.4.2, rho"),
         24 | 25 => print_text(b"D.4.3, ideal W"),
         26 | 27 => print_text(b"D.4.3, W"),
-        _ => print_text(b"D.4.3, W with all digits"),
+        28 => print_text(b"D.4.3, W with all digits"),
+        29 => print_text(b"M"),
+        30 => print_text(b"H"),
+        31 => print_text(b"s"),
+        32 => print_text(b"x M"),
+        33 => print_text(b"x H"),
+        _ => print_text(b"x s"),
     }
 }
 
@@ -99,21 +83,22 @@ pub fn figure(values: &Values, k: usize) -> u64
     requires { ⌜ k < 29 ⌝ }
     ensures { λ r. ⌜ r ≡ textFigure (now (values .entry)) k ⌝ }
 {
-    rounding::nearest(values[k / 6][k % 6], STEPS[k / 6][k % 6])
+    rounding::nearest(values[k / 6][k % 6], text::STEPS[k])
 }
 
 // All figures, with the properties of the gas's record.
-fn print_counts(table: &[[i32; 12]; 55], p: Properties)
+fn print_counts(table: &Table, p: Properties)
     requires { ⌜ now table ≡ componentTable ⌝ }
 {
     let values = values(gas::sums_of(table), p);
-    let counts = parts::count(Counts::new(), Part::TableD1, 48, table, &values);
-    let counts = parts::count(counts, Part::Text, 29, table, &values);
+    let none = parts::Counts::new();
+    let rows = parts::count(none, Part::TableD1, &table_d1::FIGURES, table, &values);
+    let counts = parts::count(rows, Part::Text, &text::FIGURES, table, &values);
     print_text(b"annex D: ");
     counts.print();
 }
 
-pub fn print_comparison(table: &[[i32; 12]; 55])
+pub fn print_comparison(table: &Table)
     requires { ⌜ now table ≡ componentTable ⌝ }
 {
     let mut record = [0u8; 48];

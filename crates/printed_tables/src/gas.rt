@@ -7,6 +7,7 @@ ghost use Rattle.printed_tables.specs.Figures.{numberOf};
 ghost use Rattle.printed_tables.specs.Gas.{gas, lineAt, fractionAt, massPart, volumePart, sumsOf};
 ghost use Rattle.printed_tables.specs.TableD1.{rowWeight, rowScale, rowFigure};
 use super::tables;
+use super::tables::Table;
 use properties::steps;
 
 // The lines, and their mole fractions in ppm.
@@ -14,19 +15,7 @@ pub const LINES: [u8; 8] = [1, 2, 3, 4, 5, 6, 52, 54];
 
 pub const FRACTIONS: [u32; 8] = [924700, 35000, 9800, 2200, 3400, 600, 17500, 6800];
 
-// The figures M, H, s, x M, x H and x s of each line.
-pub const PRINTED: [[u32; 6]; 8] = [
-    [16043, 89156, 447, 148350, 82443, 4133],
-    [30070, 156214, 922, 10525, 5467, 323],
-    [44097, 222110, 1338, 4322, 2177, 131],
-    [58123, 287976, 1871, 1279, 634, 41],
-    [58123, 287058, 1789, 1976, 976, 61],
-    [72150, 353860, 2510, 433, 212, 15],
-    [280135, 0, 173, 4902, 0, 30],
-    [44010, 0, 748, 2993, 0, 51],
-];
-
-// The columns in the component table, the scales, and how many of the unit make 1.
+// Of M, H, s, x M, x H and x s: the columns in the component table, the scales, and how many of the unit make 1.
 const COLUMNS: [usize; 6] = [0, 8, 2, 0, 8, 2];
 
 const SCALES: [u64; 6] = [1000, 100, 10000, 10000, 100, 100000];
@@ -34,7 +23,7 @@ const SCALES: [u64; 6] = [1000, 100, 10000, 10000, 100, 100000];
 const UNITS: [u64; 6] = [10000, 1000, 10000, 10000000000, 1000000000, 10000000000];
 
 // The i-th line's number in a column of the component table, without its sign.
-fn number(table: &[[i32; 12]; 55], i: usize, column: usize) -> u64
+fn number(table: &Table, i: usize, column: usize) -> u64
     requires { ⌜ now table ≡ componentTable ⌝ }
     requires { ⌜ (i < 8) × (column < 12) ⌝ }
     ensures { λ r. ⌜ r ≡ numberOf (lineAt i) column ⌝ }
@@ -71,7 +60,7 @@ fn weight(k: usize) -> u64
 }
 
 // The k-th figure as calculated.
-pub fn figure(table: &[[i32; 12]; 55], k: usize) -> u64
+pub fn figure(table: &Table, k: usize) -> u64
     requires { ⌜ now table ≡ componentTable ⌝ }
     requires { ⌜ k < 48 ⌝ }
     ensures { λ r. ⌜ r ≡ rowFigure k ⌝ }
@@ -91,7 +80,7 @@ pub struct Sums {
 }
 
 // A line's part of formula (7): its mass fraction, unit 10^-7, times its calorific value, unit 10^-5 MJ/kg.
-fn mass_part(table: &[[i32; 12]; 55], i: usize, total: u64) -> u64
+fn mass_part(table: &Table, i: usize, total: u64) -> u64
     requires { ⌜ now table ≡ componentTable ⌝ }
     requires { ⌜ (i < 8) × (total ≡ M gas) ⌝ }
     ensures { λ r. ⌜ r ≡ massPart i ⌝ }
@@ -103,7 +92,7 @@ fn mass_part(table: &[[i32; 12]; 55], i: usize, total: u64) -> u64
 }
 
 // A line's part of formula (9): its fraction times its calorific value.
-fn volume_part(table: &[[i32; 12]; 55], i: usize) -> u64
+fn volume_part(table: &Table, i: usize) -> u64
     requires { ⌜ now table ≡ componentTable ⌝ }
     requires { ⌜ i < 8 ⌝ }
     ensures { λ r. ⌜ r ≡ volumePart i ⌝ }
@@ -112,7 +101,7 @@ fn volume_part(table: &[[i32; 12]; 55], i: usize) -> u64
     fraction(i) * steps::ideal_calorific_value(1000000 * h, steps::divisor(15))
 }
 
-pub fn sums_of(table: &[[i32; 12]; 55]) -> Sums
+pub fn sums_of(table: &Table) -> Sums
     requires { ⌜ now table ≡ componentTable ⌝ }
     ensures { λ r. ⌜ r ≡ sumsOf ⌝ }
 {

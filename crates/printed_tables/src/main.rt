@@ -7,11 +7,13 @@ mod parts;
 mod places;
 mod table_4;
 mod table_5;
+mod table_d1;
 mod tables;
+mod text;
 
 fn main() {
     let table = components::component_table();
-    tables::print_comparison(5, parts::Part::Table5, 576, &table);
-    tables::print_comparison(4, parts::Part::Table4, 384, &table);
+    tables::print_comparison(5, parts::Part::Table5, &table_5::FIGURES, &table);
+    tables::print_comparison(4, parts::Part::Table4, &table_4::FIGURES, &table);
     annex_d::print_comparison(&table);
 }

@@ -1,16 +1,16 @@
 // The comparison of a part of the source. A part's figures stand line after line, and are counted from 0.
 ghost use mathlib.Core.Path.{_≡_};
 ghost use Prim.Native.Nat.{_<_};
+ghost use lib.ListN.{length};
 ghost use Rattle.components.specs.Table.{componentTable};
-ghost use Rattle.printed_tables.specs.Counts.{distance, none, counted};
+ghost use Rattle.printed_tables.specs.Counts.{distance, none, counted, countsOf};
 ghost use Rattle.printed_tables.specs.Parts.{figuresIn, figureAt};
 use super::annex_d;
 use super::annex_d::Values;
 use super::gas;
 use super::places;
-use super::table_4;
-use super::table_5;
 use super::tables;
+use super::tables::Table;
 use report::print_number;
 use report::print_text;
 
@@ -72,18 +72,8 @@ pub enum Part {
     Text,
 }
 
-// The k-th figure as printed: its digits without the decimal sign. The remainders keep each index below the number of figures.
-fn printed(part: Part, k: usize) -> u32 {
-    match part {
-        Part::Table4 => table_4::FIGURES[k % 384],
-        Part::Table5 => table_5::FIGURES[k % 576],
-        Part::TableD1 => gas::PRINTED[k / 6 % 8][k % 6],
-        Part::Text => annex_d::PRINTED[k / 6 % 5][k % 6],
-    }
-}
-
 // The k-th figure as calculated, with the values of the text.
-fn calculated(part: Part, table: &[[i32; 12]; 55], values: &Values, k: usize) -> u64
+fn calculated(part: Part, table: &Table, values: &Values, k: usize) -> u64
     requires { ⌜ now table ≡ componentTable ⌝ }
     requires { ⌜ k < figuresIn part ⌝ }
     ensures { λ r. ⌜ r ≡ figureAt part (now (values .entry)) k ⌝ }
@@ -96,15 +86,16 @@ fn calculated(part: Part, table: &[[i32; 12]; 55], values: &Values, k: usize) ->
     }
 }
 
-// The counts with the n figures of a part more. Those that differ are printed.
-pub fn count(c: Counts, part: Part, n: usize, table: &[[i32; 12]; 55], values: &Values) -> Counts
+// The counts with the printed figures of a part more. Those that differ are printed.
+pub fn count(c: Counts, part: Part, figures: &[u32], table: &Table, values: &Values) -> Counts
     requires { ⌜ now table ≡ componentTable ⌝ }
-    requires { ⌜ n ≡ figuresIn part ⌝ }
+    requires { ⌜ length (now figures) ≡ figuresIn part ⌝ }
+    ensures { λ r. ⌜ r ≡ countsOf c (now (figures .entry)) (figureAt part (now (values .entry))) (length (now (figures .entry))) ⌝ }
 {
     let mut counts = c;
     let mut k = 0;
-    while k < n {
-        let printed = printed(part, k) as u64;
+    while k < figures.len() {
+        let printed = figures[k] as u64;
         let calculated = calculated(part, table, values, k);
         places::report(part, k, printed, calculated);
         counts = counts.with(printed, calculated);

@@ -3,6 +3,7 @@ use super::annex_d;
 use super::gas;
 use super::parts::Part;
 use super::tables;
+use super::text;
 use report::print_number;
 use report::print_text;
 
@@ -40,16 +41,18 @@ fn print_cell(number: u8, line: usize, column: usize, conditions: usize) {
     print_conditions(conditions);
 }
 
+fn print_row(line: u8, name: usize) {
+    print_text(b"annex D, table D.1, line ");
+    print_number(line as u64);
+    print_text(b", ");
+    annex_d::print_name(name);
+}
+
 fn print_place(part: Part, k: usize) {
     match part {
         Part::Table4 => print_cell(4, k / 8 + 1, k % 8, 6 + k % 8 / 2),
         Part::Table5 => print_cell(5, k / 12 + 1, k % 12, k % 12 / 2),
-        Part::TableD1 => {
-            print_text(b"annex D, table D.1, row ");
-            print_number(k as u64 / 6 + 1);
-            print_text(b", column ");
-            print_number(k as u64 % 6 + 1);
-        }
+        Part::TableD1 => print_row(gas::LINES[k / 6 % 8], 29 + k % 6),
         Part::Text => {
             print_text(b"annex D, ");
             annex_d::print_name(k);
@@ -57,34 +60,26 @@ fn print_place(part: Part, k: usize) {
     }
 }
 
-// A figure stands beside its scale: 1000 for three decimals.
-fn scale(part: Part, k: usize) -> u64 {
-    match part {
-        Part::Table4 => tables::scale(4, k / 8 + 1),
-        Part::Table5 => tables::scale(5, k / 12 + 1),
-        Part::TableD1 => gas::scale(k),
-        Part::Text => annex_d::SCALES[k / 6 % 5][k % 6],
-    }
-}
-
-// The digit at a decimal place; there is none below the last.
-fn print_digit(digits: u64, place: u64) {
-    if place > 0 {
-        print_number(digits / place % 10);
-    }
-}
-
-// A figure with its decimal point, of at most five decimals.
+// A figure with its decimal point.
 fn print_figure(digits: u64, scale: u64) {
     if scale > 0 {
         print_number(digits / scale);
     }
     print_text(b".");
-    print_digit(digits, scale / 10);
-    print_digit(digits, scale / 100);
-    print_digit(digits, scale / 1000);
-    print_digit(digits, scale / 10000);
-    print_digit(digits, scale / 100000);
+    let mut place = scale / 10;
+    while place > 0 {
+        print_number(digits / place % 10);
+        place = place / 10;
+    }
+}
+
+// A figure as printed and as calculated, beside their scale: 1000 for three decimals.
+fn print_both(printed: u64, calculated: u64, scale: u64) {
+    print_text(b": printed ");
+    print_figure(printed, scale);
+    print_text(b", calculated ");
+    print_figure(calculated, scale);
+    print_text(b"\n");
 }
 
 // Prints the k-th figure of a part where its digits as printed and as calculated differ.
@@ -92,11 +87,11 @@ pub fn report(part: Part, k: usize, printed: u64, calculated: u64) {
     if printed == calculated {
         return;
     }
-    let scale = scale(part, k);
     print_place(part, k);
-    print_text(b": printed ");
-    print_figure(printed, scale);
-    print_text(b", calculated ");
-    print_figure(calculated, scale);
-    print_text(b"\n");
+    match part {
+        Part::Table4 => print_both(printed, calculated, tables::scale(4, k / 8 + 1)),
+        Part::Table5 => print_both(printed, calculated, tables::scale(5, k / 12 + 1)),
+        Part::TableD1 => print_both(printed, calculated, gas::scale(k)),
+        Part::Text => print_both(printed, calculated, text::SCALES[k % 29]),
+    }
 }

@@ -1,17 +1,17 @@
-// Tables 4 and 5: the ideal calorific value per kilogram and per cubic metre of the lines 1 to 48, superior and inferior by turns. They
-// are calculated from the numbers of the component table.
+// Tables 4 and 5: the ideal calorific value per kilogram and per cubic metre of the lines 1 to 48, superior and inferior by turns.
 ghost use mathlib.Core.Path.{_≡_};
 ghost use Prim.Native.Nat.{_≤_, _<_};
 ghost use lib.IntN.{natAbs};
+ghost use lib.ListN.{length};
 ghost use Rattle.components.specs.Table.{componentTable};
 ghost use Rattle.printed_tables.specs.Figures.{numberOf, scaleOf, perKilogram, perCubicMetre};
 ghost use Rattle.printed_tables.specs.Parts.{figuresIn};
 use super::parts;
-use super::parts::Counts;
-use super::parts::Part;
 use super::places;
 use properties::steps;
 use report::print_text;
+
+pub type Table = [[i32; 12]; 55];
 
 // The columns of the component table: m, and superior h at 25 and 15 °C.
 pub const M: usize = 0;
@@ -31,7 +31,7 @@ pub fn size(n: i64) -> u64
 }
 
 // A number of the component table, without its sign.
-pub fn number(table: &[[i32; 12]; 55], line: usize, column: usize) -> u64
+pub fn number(table: &Table, line: usize, column: usize) -> u64
     requires { ⌜ now table ≡ componentTable ⌝ }
     requires { ⌜ (1 ≤ line) × (line ≤ 55) × (column < 12) ⌝ }
     ensures { λ r. ⌜ r ≡ numberOf line column ⌝ }
@@ -55,7 +55,7 @@ pub fn scale(number: u8, line: usize) -> u64
 }
 
 // The figures of a line in a column.
-pub fn per_kilogram(table: &[[i32; 12]; 55], line: usize, column: usize) -> u64
+pub fn per_kilogram(table: &Table, line: usize, column: usize) -> u64
     requires { ⌜ now table ≡ componentTable ⌝ }
     requires { ⌜ (1 ≤ line) × (line ≤ 55) × (column < 8) ⌝ }
     ensures { λ r. ⌜ r ≡ perKilogram line column ⌝ }
@@ -65,7 +65,7 @@ pub fn per_kilogram(table: &[[i32; 12]; 55], line: usize, column: usize) -> u64
     rounding::nearest(10 * h * scale(4, line), m)
 }
 
-pub fn per_cubic_metre(table: &[[i32; 12]; 55], line: usize, column: usize) -> u64
+pub fn per_cubic_metre(table: &Table, line: usize, column: usize) -> u64
     requires { ⌜ now table ≡ componentTable ⌝ }
     requires { ⌜ (1 ≤ line) × (line ≤ 55) × (column < 12) ⌝ }
     ensures { λ r. ⌜ r ≡ perCubicMetre line column ⌝ }
@@ -76,11 +76,11 @@ pub fn per_cubic_metre(table: &[[i32; 12]; 55], line: usize, column: usize) -> u
     rounding::nearest(value * scale(5, line), 1000000)
 }
 
-pub fn print_comparison(number: u8, part: Part, n: usize, table: &[[i32; 12]; 55])
+pub fn print_comparison(number: u8, part: parts::Part, figures: &[u32], table: &Table)
     requires { ⌜ now table ≡ componentTable ⌝ }
-    requires { ⌜ n ≡ figuresIn part ⌝ }
+    requires { ⌜ length (now figures) ≡ figuresIn part ⌝ }
 {
-    let counts = parts::count(Counts::new(), part, n, table, &[[0; 6]; 5]);
+    let counts = parts::count(parts::Counts::new(), part, figures, table, &[[0; 6]; 5]);
     places::print_table(number);
     print_text(b": ");
     counts.print();

@@ -14,7 +14,5 @@ figure-spec =
     (λ c. search needs)
     (λ c. search needs)
     (λ c. search needs)
-    (λ c. search needs)
-    (λ c. search needs)
-    (λ c κs. step-above _ (c .before .before .pre))
+    (λ c κs. step-above _ (c .before .pre))
     (λ c. search needs))
