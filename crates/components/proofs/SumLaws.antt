@@ -88,7 +88,3 @@ module _ (c k a : ℕ) (own : a ≤ natAbs (entryOf k c)) where
   share-low [] xs = omega arith
   share-low (l ∷ ls) [] = omega arith
   share-low (l ∷ ls) (x ∷ xs) = low-step l x _ _ (eqb l k) (λ t. eqb→eq l k t) (share-low ls xs)
-
--- Without a share: every number of the column has at most size b.
-pub sizes-high : (c b : ℕ) → ((l : ℕ) → natAbs (entryOf l c) ≤ b) → (ls xs : List ℕ) → sizes c ls xs ≤ b * total xs
-sizes-high c b all ls xs = omega (arith, share-high c 0 b b (omega arith) (all 0) all ls xs)
