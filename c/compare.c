@@ -74,6 +74,10 @@ static void compare(const char *gas, const char *name, uint8_t (*call)(int))
 {
     static double time[2][TURNS], ratio[TURNS];
     uint8_t number = call(NOW);
+    if (call(BEFORE) != number) {
+        printf("%-24s %-16s not compared: the answers differ\n", gas, name);
+        return;
+    }
     for (int i = 0; i < TURNS; i++) {
         int first = i % 2; /* the two sides begin by turns */
         time[first][i] = timed(call, first);
