@@ -2,7 +2,7 @@
 use mathlib.Core.List.{List}
 use Prim.Native.Nat.{ℕ, _+_, _*_, _/_, _%_}
 use Rattle.rounding.specs.Near.{near}
-use Rattle.records.specs.Order.{Outcome, firstOf, decided}
+use Rattle.records.specs.Order.{Outcome, firstOf, decided, otherwise}
 use Rattle.records.specs.Format.{combustionIn, meteringIn, contentsIn}
 use Rattle.properties.specs.Chain.{sixOf}
 use Rattle.properties.specs.Answers.{quantities}
@@ -41,6 +41,13 @@ analysisOf m k bs = decided (firstOf (analysisOrder k bs (streamAt m k))) (withS
 -- the metering call: the stream k takes v dm³
 abbrev pub meteringOf : Meter → ℕ → ℕ → Outcome Meter
 meteringOf m k v = decided (firstOf (meteringOrder k v (streamAt m k))) (withStream m k (metered (streamAt m k) v))
+
+-- the meter after either call: as it was where the call is refused
+abbrev pub afterAnalysis : Meter → ℕ → List ℕ → Meter
+afterAnalysis m k bs = otherwise m (analysisOf m k bs)
+
+abbrev pub afterMetering : Meter → ℕ → ℕ → Meter
+afterMetering m k v = otherwise m (meteringOf m k v)
 
 -- the reading of totals
 abbrev pub totalsIn : Stream → StreamTotals

@@ -21,8 +21,8 @@ line-in k h = (at-least lineAt 1 8 tt k h, at-most lineAt 55 8 tt k h)
 pub fraction-high : (k : ℕ) → k < 8 → fractionAt k ≤ 1000000
 fraction-high = at-most fractionAt 1000000 8 tt
 
-pub fraction-low : (k : ℕ) → k < 8 → fractionAt k ≤ 100000000000000
-fraction-low k h = omega (arith, fraction-high k h)
+pub fraction-at-most : (k : ℕ) → k < 8 → fractionAt k ≤ 100000000000000
+fraction-at-most k h = omega (arith, fraction-high k h)
 
 pub composition : Composition (gas .lines) (gas .fractions)
 unfolding total

@@ -3,22 +3,14 @@ use mathlib.Core.Bool.{cond}
 use mathlib.Core.List.{List}
 use Prim.Native.Nat.{ℕ, zero, suc, _+_, _*_}
 use lib.Dec.{eqb}
-use Rattle.records.specs.Order.{otherwise}
 use Rattle.records.specs.Format.{number4}
 use Rattle.meter.specs.declared.Meter.{Meter}
 use Rattle.meter.specs.State.{freshMeter}
-use Rattle.meter.specs.Calls.{analysisOf, meteringOf}
+use Rattle.meter.specs.Calls.{afterAnalysis, afterMetering}
 
 -- the 8-byte number at an offset, least significant byte first
 abbrev pub number8 : List ℕ → ℕ → ℕ
 number8 bs at = number4 bs at + 4294967296 * number4 bs (at + 4)
-
--- a meter after an analysis, and after a metering call
-abbrev pub afterAnalysis : Meter → ℕ → List ℕ → Meter
-afterAnalysis m k bs = otherwise m (analysisOf m k bs)
-
-abbrev pub afterMetering : Meter → ℕ → ℕ → Meter
-afterMetering m k v = otherwise m (meteringOf m k v)
 
 -- a meter after n calls that each meter 10,000,000 dm³ on the stream k
 unfoldable pub filledBy : ℕ → Meter → ℕ → Meter

@@ -14,7 +14,8 @@ ghost use mathlib.Core.Path.{_≡_};
 ghost use Prim.Native.Nat.{_+_, _≤_};
 ghost use lib.ListN.{length};
 ghost use Rattle.meter.specs.State.{Sound};
-ghost use Rattle.try_meter.specs.Calls.{number8, afterAnalysis, afterMetering, filledBy, afterCall};
+ghost use Rattle.meter.specs.Calls.{afterAnalysis, afterMetering};
+ghost use Rattle.try_meter.specs.Calls.{number8, filledBy, afterCall};
 
 // The name of a call, and the stream that it names.
 fn print_call(name: &[u8], stream: usize) {

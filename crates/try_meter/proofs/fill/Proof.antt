@@ -6,7 +6,8 @@ use native.Mathlib.Omega.{arith}
 use Rattle.meter.specs.declared.Meter.{Meter}
 use Rattle.meter.specs.State.{Sound}
 use Rattle.meter.proofs.Kept.{metering-keeps}
-use Rattle.try_meter.specs.Calls.{afterMetering, filledBy}
+use Rattle.meter.specs.Calls.{afterMetering}
+use Rattle.try_meter.specs.Calls.{filledBy}
 use Rattle.try_meter.proofs.fill.Statement.{statement}
 use Rattle.try_meter.proofs.fill.Tie as tie
 

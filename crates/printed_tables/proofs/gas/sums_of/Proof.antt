@@ -10,7 +10,7 @@ use mir.Facts.{toZ-ofZ}
 use Rattle.rounding.proofs.SignedWords.{fits64}
 use Rattle.properties.specs.Chain.{HmSuperior, M, S}
 use Rattle.printed_tables.specs.Gas.{gas, fractionAt, massPart, volumePart, sumTo}
-use Rattle.printed_tables.proofs.GasLaws.{composition, h-is, m-is, s-is, s-value, fraction-low, mass-part-high, volume-part-high, sum-step, sum-high}
+use Rattle.printed_tables.proofs.GasLaws.{composition, h-is, m-is, s-is, s-value, fraction-at-most, mass-part-high, volume-part-high, sum-step, sum-high}
 use Rattle.printed_tables.proofs.gas.sums_of.Statement.{statement}
 use Rattle.printed_tables.proofs.gas.sums_of.Tie as tie
 
@@ -39,7 +39,7 @@ unfolding sumTo
 loop-holds c = (omega arith, refl, refl, refl)
 
 add-x : tie.Need-add-x Inv-loop μ-loop
-add-x c = let h = c .before .loop-test .taken in record { fits = omega (arith, c .fraction .ensures, fraction-low _ h, sum-high fractionAt fraction-low (c .before .before .loop .i) (omega arith)) }
+add-x c = let h = c .before .loop-test .taken in record { fits = omega (arith, c .fraction .ensures, fraction-at-most _ h, sum-high fractionAt fraction-at-most (c .before .before .loop .i) (omega arith)) }
 
 add-mass : tie.Need-add-mass Inv-loop μ-loop
 add-mass c = let h = c .before .before .loop-test .taken in record { fits = omega (arith, c .mass-part .ensures, mass-part-high _ h, sum-high massPart mass-part-high (c .before .before .before .loop .i) (omega arith)) }
