@@ -6,14 +6,14 @@ use Prim.Native.Nat.{ℕ, zero, suc, _≤_, _<_}
 use native.Mathlib.Omega.{arith}
 use borrow.Author.Tests.{ltb-false, leb-false}
 use lib.Dec.{ltb}
-use lib.ListN.{length, getD, drop}
+use lib.ListN.{length, getD}
 use Rattle.components.specs.Composition.{Ascending, total}
 use Rattle.records.specs.Order.{firstOf}
-use Rattle.records.specs.Format.{entriesAt, countIn, linesIn, fractionsIn, contentsIn}
+use Rattle.records.specs.Format.{linesIn, fractionsIn, contentsIn}
 use Rattle.records.specs.Conditions.{lineBreaks, contentOrder, recordOrder}
 use Rattle.records.specs.Accepted.{Acceptable, AcceptedIsAcceptable}
 use Rattle.records.proofs.OrderLaws.{unmet, neither, decided-accepted}
-use Rattle.records.proofs.Entries.{length-lines, length-fractions}
+use Rattle.records.proofs.Entries.{count-lines, count-fractions}
 use Rattle.records.proofs.RoundTrips.{accepted-content}
 
 ascends : (before : ℕ) (ls : List ℕ) → lineBreaks before ls ≡ false → Ascending before ls
@@ -37,7 +37,7 @@ acceptable bs h =
     let up = ascends 0 (linesIn bs) (o 7) in
     record {
       composition = record {
-        same = length-lines (countIn bs) (drop entriesAt bs) ∙ sym (length-fractions (countIn bs) (drop entriesAt bs));
+        same = count-lines bs ∙ sym (count-fractions bs);
         lines = in-table 0 (linesIn bs) up;
         sum = ltb-false _ _ (sum .1);
       };

@@ -7,7 +7,7 @@ use native.Mathlib.Numerals.{add-one}
 use native.Mathlib.Omega.{arith}
 use lib.ListN.{length, getD, take, drop, set, replicate, length-append, length-drop}
 use lib.Seq.{paste-suc, getD-drop, take-all, take-length, length-take-le}
-use Rattle.records.specs.Format.{entriesAt, number4, countIn, linesOf, fractionsOf, linesIn, fractionsIn, entryBytes, entriesBytes, placed}
+use Rattle.records.specs.Format.{entriesAt, recordLength, number4, countIn, entriesIn, linesOf, fractionsOf, linesIn, fractionsIn, entryBytes, entriesBytes, placed}
 use Rattle.records.specs.Answers.{padded}
 use Rattle.records.proofs.Placing.{placed-none, placed-after}
 
@@ -16,10 +16,17 @@ unfolding linesOf
 length-lines zero es = refl
 length-lines (suc n) es = ap suc (length-lines n (drop 5 es))
 
-pub length-fractions : (n : ℕ) (es : List ℕ) → length (fractionsOf n es) ≡ n
+length-fractions : (n : ℕ) (es : List ℕ) → length (fractionsOf n es) ≡ n
 unfolding fractionsOf
 length-fractions zero es = refl
 length-fractions (suc n) es = ap suc (length-fractions n (drop 5 es))
+
+module _ (bs : List ℕ) where
+  pub count-lines : length (linesIn bs) ≡ countIn bs
+  count-lines = length-lines (countIn bs) (entriesIn bs)
+
+  pub count-fractions : length (fractionsIn bs) ≡ countIn bs
+  count-fractions = length-fractions (countIn bs) (entriesIn bs)
 
 number-drop : (m : ℕ) (bs : List ℕ) (at : ℕ) → number4 (drop m bs) at ≡ number4 bs (m + at)
 number-drop m bs at = simp (getD-drop, add-assoc)
@@ -39,12 +46,12 @@ fraction-at (suc n) es (suc k) h = fraction-at n (drop 5 es) k (omega arith) ∙
 
 -- where the entry k of a record stands
 module _ (bs : List ℕ) (k : ℕ) (h : k < countIn bs) where
-  pub line-here : getD bs (entriesAt + 5 * k) 0 ≡ getD (linesIn bs) k 0
-  line-here = sym (line-at (countIn bs) (drop entriesAt bs) k h ∙ getD-drop entriesAt bs (5 * k) 0)
+  pub line-here : getD bs (recordLength k) 0 ≡ getD (linesIn bs) k 0
+  line-here = sym (line-at (countIn bs) (entriesIn bs) k h ∙ getD-drop entriesAt bs (5 * k) 0)
 
-  pub fraction-here : number4 bs (entriesAt + 5 * k + 1) ≡ getD (fractionsIn bs) k 0
+  pub fraction-here : number4 bs (recordLength k + 1) ≡ getD (fractionsIn bs) k 0
   fraction-here =
-      sym (fraction-at (countIn bs) (drop entriesAt bs) k h ∙ number-drop entriesAt bs (5 * k + 1) ∙ ap (λ (i : ℕ). number4 bs i) (sym (add-assoc entriesAt (5 * k) 1)))
+      sym (fraction-at (countIn bs) (entriesIn bs) k h ∙ number-drop entriesAt bs (5 * k + 1) ∙ ap (λ (i : ℕ). number4 bs i) (sym (add-assoc entriesAt (5 * k) 1)))
 
 -- an array of 55 whose first k numbers are those of s, and the others 0
 abbrev pub filled : List ℕ → ℕ → List ℕ

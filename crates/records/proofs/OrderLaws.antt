@@ -6,7 +6,7 @@ use Prim.Native.Nat.{ℕ, zero, suc}
 use native.Mathlib.Omega.{arith}
 use lib.Dec.{T, eqb}
 use Rattle.records.specs.declared.Verdict.{Verdict}
-use Rattle.records.specs.declared.Verdict.the-variants.{Refused}
+use Rattle.records.specs.declared.Verdict.the-variants.{Accepted, Refused}
 use Rattle.records.specs.Order.{Order, firstOf, refused, accepted, decided, otherwise, mapped}
 use Rattle.records.specs.Answers.{Gives, verdictOf}
 
@@ -73,6 +73,13 @@ module _ {A : Type 0} where
   pub beside : (n : ℕ) (answer other : A) → (n ≡ 0 → ⊥) → other ≡ otherwise other (decided n answer)
   beside zero answer other h = elim (h refl) [ ]
   beside (suc n) answer other h = refl
+
+  -- a refusal and what stood before it, and an acceptance and its answer
+  pub gives-refused : (n m : ℕ) (answer other : A) → m ≡ n → (m ≡ 0 → ⊥) → Gives (decided n answer) other (Refused m) other
+  gives-refused n m answer other e h = rw (← e) (gives m answer other other (Refused m) (verdict-refused m h) (beside m answer other h))
+
+  pub gives-accepted : (n : ℕ) (answer other : A) → n ≡ 0 → Gives (decided n answer) other Accepted answer
+  gives-accepted n answer other e = rw e (gives 0 answer other answer Accepted refl refl)
 
   pub refuses : (n : ℕ) (answer : A) → (n ≡ 0 → ⊥) → decided n answer ≡ refused n
   refuses zero answer h = elim (h refl) [ ]

@@ -3,19 +3,19 @@ use mathlib.Core.Path.{_≡_, refl, sym, ap, subst, _∙_}
 use mathlib.Core.List.{List}
 use Prim.Native.Nat.{ℕ, _≤_}
 use native.Mathlib.Omega.{arith}
-use lib.ListN.{length, take, drop, length-append}
+use lib.ListN.{length, take, length-append}
 use lib.Seq.{take-at}
 use Rattle.records.specs.declared.Verdict.{Verdict}
 use Rattle.records.specs.declared.Verdict.the-variants.{Accepted, Refused}
 use Rattle.records.specs.declared.Analysis.{Analysis}
 use Rattle.records.specs.declared.Reading.{Reading}
 use Rattle.records.specs.Order.{Outcome, firstOf}
-use Rattle.records.specs.Format.{Contents, contents, Bytes, entriesAt, combustionIn, meteringIn, countIn, linesIn, fractionsIn, contentsIn, placed}
+use Rattle.records.specs.Format.{Contents, contents, Bytes, combustionIn, meteringIn, countIn, linesIn, fractionsIn, contentsIn, placed}
 use Rattle.records.specs.Conditions.{recordOrder, roomOrder}
 use Rattle.records.specs.Calls.{writingOf}
 use Rattle.records.specs.Answers.{Gives, Reads, Writes, Rewrites, padded, held, blank}
-use Rattle.records.proofs.OrderLaws.{stops, gives, verdict-refused, beside, decided-accepted, decided-refused, mapped-decided}
-use Rattle.records.proofs.Entries.{length-lines, length-fractions}
+use Rattle.records.proofs.OrderLaws.{stops, gives, gives-refused, verdict-refused, beside, decided-accepted, decided-refused, mapped-decided}
+use Rattle.records.proofs.Entries.{count-lines, count-fractions}
 use Rattle.records.proofs.RoundTrips.{rewriting-is}
 
 -- the first n numbers of an array are a list
@@ -39,7 +39,7 @@ module _ (bs lines fractions : List ℕ) (hl : lines ≡ padded (linesIn bs)) (h
       })
   reads-accepted e =
       rw (mapped-decided held (firstOf (recordOrder bs)) (contentsIn bs), e)
-      (gives 0 (held (contentsIn bs)) blank _ Accepted refl (rw (hl, hx, length-lines (countIn bs) (drop entriesAt bs))))
+      (gives 0 (held (contentsIn bs)) blank _ Accepted refl (rw (hl, hx, count-lines bs)))
 
 pub reads-refused : (bs : List ℕ) (r : Reading) (number : ℕ) → number ≡ firstOf (recordOrder bs) → (number ≡ 0 → ⊥)
     → r .verdict ≡ Refused number → r .analysis ≡ blank → Reads bs r
@@ -63,7 +63,7 @@ refused-is bs r number h v =
 pub rewrites-refused : (bs old : List ℕ) (number : ℕ) → number ≡ firstOf (recordOrder bs) → (number ≡ 0 → ⊥) → Rewrites bs old old (Refused number)
 rewrites-refused bs old number e h =
     rw (← stops (recordOrder bs) (roomOrder (length old) (countIn bs)) e h)
-    (gives number (placed old 0 bs) old old (Refused number) (verdict-refused number h) (beside number (placed old 0 bs) old h))
+    (gives-refused number number (placed old 0 bs) old refl h)
 
 -- the contents that an analysis holds
 abbrev pub contentsOf : Analysis → Contents
@@ -75,7 +75,7 @@ module _ (bs : List ℕ) (a : Analysis) (e : a ≡ held (contentsIn bs)) where
 
   pub fractions-held : Prefix (a .fractions) (a .count) (fractionsIn bs)
   fractions-held =
-      rw e (prefix _ (fractionsIn bs) _ refl (length-fractions (countIn bs) (drop entriesAt bs) ∙ sym (length-lines (countIn bs) (drop entriesAt bs))))
+      rw e (prefix _ (fractionsIn bs) _ refl (count-fractions bs ∙ sym (count-lines bs)))
 
   pub contents-held : contentsOf a ≡ contentsIn bs
   contents-held = rw (lines-held .is, fractions-held .is) (rw e)

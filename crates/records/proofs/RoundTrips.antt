@@ -9,7 +9,7 @@ use lib.ListN.{length, getD, take, drop, take-append-drop, length-drop}
 use lib.Seq.{take-suc, getD-drop}
 use Rattle.components.specs.Composition.{total}
 use Rattle.records.specs.Order.{Order, firstOf, accepted, decided}
-use Rattle.records.specs.Format.{Contents, Bytes, entriesAt, recordLength, number4, combustionIn, meteringIn, countIn, linesOf, fractionsOf, linesIn, fractionsIn, contentsIn, headBytes, entryBytes, entriesBytes, bytesOf, placed}
+use Rattle.records.specs.Format.{Contents, Bytes, entriesAt, recordLength, number4, combustionIn, meteringIn, countIn, entriesIn, linesOf, fractionsOf, linesIn, fractionsIn, contentsIn, headBytes, entryBytes, entriesBytes, bytesOf, placed}
 use Rattle.records.specs.Conditions.{headOrder, contentOrder, recordOrder, startOrder, roomOrder, writerOrder, rewriteOrder}
 use Rattle.records.specs.Calls.{readingOf, writingOf, rewritingOf}
 use Rattle.records.specs.RoundTrips.{FillsItsBytes, ReadThenWritten, WrittenThenRead}
@@ -17,7 +17,7 @@ use Rattle.records.proofs.OrderLaws.{passes, clear-first, clear-second,
 use Rattle.records.proofs.Heads.{Head, head, Start, start, room-of}
 use Rattle.records.proofs.Placing.{placed-front, placed-others, placed-length}
 use Rattle.records.proofs.Digits.{digit-0, digit-1, digit-2, digit-3, from-digits}
-use Rattle.records.proofs.Entries.{length-lines, length-fractions, length-entries}
+use Rattle.records.proofs.Entries.{count-lines, count-fractions, length-entries}
 
 -- the first n numbers of a list
 unfoldable firsts : ℕ → List ℕ → List ℕ
@@ -61,8 +61,8 @@ head-again bs h =
 -- the bytes of an accepted record are those of its contents
 bytes-again : (bs : List ℕ) → Bytes bs → Head bs → bytesOf (contentsIn bs) ≡ bs
 bytes-again bs b h =
-    let es : List ℕ = drop entriesAt bs in
-    ap (λ (n : ℕ). headBytes (combustionIn bs) (meteringIn bs) n ++ entriesBytes (linesIn bs) (fractionsIn bs)) (length-lines (countIn bs) es)
+    let es : List ℕ = entriesIn bs in
+    ap (λ (n : ℕ). headBytes (combustionIn bs) (meteringIn bs) n ++ entriesBytes (linesIn bs) (fractionsIn bs)) (count-lines bs)
     ∙ ap (λ (t : List ℕ). t ++ entriesBytes (linesIn bs) (fractionsIn bs)) (sym (head-again bs h))
     ∙ ap (λ (t : List ℕ). take entriesAt bs ++ t) (entries-again (countIn bs) es (λ i. rw getD-drop (b (entriesAt + i))) (simp length-drop (omega (arith, h .exact))))
     ∙ take-append-drop entriesAt bs
@@ -81,8 +81,8 @@ module _ (bs : List ℕ) (h : firstOf (recordOrder bs) ≡ 0) where
 -- such a record is refused by the writer for nothing but its room
 writer-room : (bs : List ℕ) (room : ℕ) → firstOf (recordOrder bs) ≡ 0 → firstOf (writerOrder (contentsIn bs) room) ≡ firstOf (roomOrder room (countIn bs))
 writer-room bs room h =
-    let nl = length-lines (countIn bs) (drop entriesAt bs) in
-    let nx = length-fractions (countIn bs) (drop entriesAt bs) in
+    let nl = count-lines bs in
+    let nx = count-fractions bs in
     let a = accepted-head bs h in
     let content = contentOrder (linesIn bs) (fractionsIn bs) in
     let last = roomOrder room (length (linesIn bs)) in

@@ -7,7 +7,7 @@ use lib.Dec.{eqb, leb, ltb}
 use lib.ListN.{length, getD}
 use Rattle.components.specs.Composition.{total, fractionFor}
 use Rattle.records.specs.Order.{Order, numbersOf}
-use Rattle.records.specs.Format.{Contents, mark, version, recordLength, number2, combustionIn, meteringIn, countIn, linesIn, fractionsIn}
+use Rattle.records.specs.Format.{Contents, mark, version, headLength, recordLength, versionIn, combustionIn, meteringIn, countIn, linesIn, fractionsIn}
 
 -- the six permitted pairs, combustion/metering
 abbrev pub permitted : ℕ → ℕ → Bool
@@ -45,7 +45,7 @@ limitOf l =
 
 -- 1: record shorter than 8 bytes
 abbrev pub tooShort : List ℕ → Bool
-tooShort bs = ltb (length bs) 8
+tooShort bs = ltb (length bs) headLength
 
 -- 2: mark differs
 abbrev pub markDiffers : List ℕ → Bool
@@ -54,7 +54,7 @@ markDiffers bs =
 
 -- 3: version is not 1
 abbrev pub versionDiffers : List ℕ → Bool
-versionDiffers bs = not (eqb (number2 bs 3) version)
+versionDiffers bs = not (eqb (versionIn bs) version)
 
 -- 4: pair not permitted
 abbrev pub pairRefused : ℕ → ℕ → Bool

@@ -22,9 +22,13 @@ mark = 71 ∷ 67 ∷ 82 ∷ []
 abbrev pub version : ℕ
 version = 1
 
+-- the bytes from the mark to the entry count
+abbrev pub headLength : ℕ
+headLength = 8
+
 -- where the entries begin
 abbrev pub entriesAt : ℕ
-entriesAt = 8
+entriesAt = headLength
 
 -- the length of a record of n entries of 5 bytes
 abbrev pub recordLength : ℕ → ℕ
@@ -36,6 +40,9 @@ number2 bs at = getD bs at 0 + 256 * getD bs (at + 1) 0
 
 abbrev pub number4 : List ℕ → ℕ → ℕ
 number4 bs at = getD bs at 0 + 256 * getD bs (at + 1) 0 + 65536 * getD bs (at + 2) 0 + 16777216 * getD bs (at + 3) 0
+
+abbrev pub versionIn : List ℕ → ℕ
+versionIn bs = number2 bs 3
 
 -- byte 5: combustion temperature; byte 6: metering temperature; byte 7: entry count n
 abbrev pub combustionIn : List ℕ → ℕ
@@ -56,11 +63,15 @@ unfoldable pub fractionsOf : ℕ → List ℕ → List ℕ
 fractionsOf zero es = []
 fractionsOf (suc n) es = number4 es 1 ∷ fractionsOf n (drop 5 es)
 
+-- the entries of a record, and what stands in them
+abbrev pub entriesIn : List ℕ → List ℕ
+entriesIn bs = drop entriesAt bs
+
 abbrev pub linesIn : List ℕ → List ℕ
-linesIn bs = linesOf (countIn bs) (drop entriesAt bs)
+linesIn bs = linesOf (countIn bs) (entriesIn bs)
 
 abbrev pub fractionsIn : List ℕ → List ℕ
-fractionsIn bs = fractionsOf (countIn bs) (drop entriesAt bs)
+fractionsIn bs = fractionsOf (countIn bs) (entriesIn bs)
 
 -- what a record holds
 abbrev pub contentsIn : List ℕ → Contents

@@ -1,11 +1,9 @@
-// The conditions of refusal, each with document 01's number, in the orders of the reader and the writer. 0 stands for none.
+// The conditions of refusal that need no search, each with document 01's number, and their orders. 0 stands for none.
 ghost use mathlib.Core.Path.{_≡_};
 ghost use Rattle.records.specs.Order.{firstOf};
-ghost use Rattle.records.specs.Format.{contents};
 ghost use Rattle.records.specs.Conditions.{permitted, limitOf, countOutside, aboveLimit};
-ghost use Rattle.records.specs.Conditions.{fieldsOrder, limitsOrder, listsOrder, headOrder, writerOrder};
+ghost use Rattle.records.specs.Conditions.{fieldsOrder, limitsOrder, listsOrder, headOrder};
 use super::format;
-use super::scan;
 
 pub const METHANE: u8 = 1;
 
@@ -21,7 +19,7 @@ const CARBON_DIOXIDE: u8 = 54;
 const COMMON_LIMIT: u32 = 50000;
 
 // The six permitted pairs.
-fn pair_permitted(combustion: u8, metering: u8) -> bool
+pub fn pair_permitted(combustion: u8, metering: u8) -> bool
     ensures { λ r. ⌜ r ≡ permitted combustion metering ⌝ }
 {
     ((combustion == 15) & (metering == 15))
@@ -33,14 +31,14 @@ fn pair_permitted(combustion: u8, metering: u8) -> bool
 }
 
 // 5: n is 0 or above 55.
-fn count_outside(n: usize) -> bool
+pub fn count_outside(n: usize) -> bool
     ensures { λ r. ⌜ r ≡ countOutside n ⌝ }
 {
     (n == 0) | (55 < n)
 }
 
 // 2 to 6 in their order, from whether each holds.
-fn fields_number(mark: bool, version: bool, pair: bool, count: bool, length: bool) -> u8
+fn fields_refusal(mark: bool, version: bool, pair: bool, count: bool, length: bool) -> u8
     ensures { λ r. ⌜ r ≡ firstOf (fieldsOrder mark version pair count length) ⌝ }
 {
     if mark {
@@ -65,21 +63,16 @@ fn fields_number(mark: bool, version: bool, pair: bool, count: bool, length: boo
 pub fn head_refusal(bytes: &[u8]) -> u8
     ensures { λ r. ⌜ r ≡ firstOf (headOrder (now (bytes .entry))) ⌝ }
 {
-    if bytes.len() < 8 {
+    if bytes.len() < format::HEAD_LENGTH {
         return 1;
     }
-    let mark_wrong = (bytes[0] != b'G') | (bytes[1] != b'C') | (bytes[2] != b'R');
-    let version_wrong = format::number_2(bytes, 3) != format::VERSION as u32;
-    let pair_wrong = !pair_permitted(bytes[5], bytes[6]);
-    let n = bytes[7] as usize;
-    let count_wrong = count_outside(n);
-    let length_wrong = bytes.len() != format::record_length(n);
-    fields_number(
-        mark_wrong,
-        version_wrong,
-        pair_wrong,
-        count_wrong,
-        length_wrong,
+    let n = format::count_in(bytes);
+    fields_refusal(
+        format::mark_differs(bytes),
+        format::version_in(bytes) != format::VERSION as u32,
+        !pair_permitted(format::combustion_in(bytes), format::metering_in(bytes)),
+        count_outside(n),
+        bytes.len() != format::record_length(n),
     )
 }
 
@@ -110,7 +103,7 @@ pub fn above_limit(line: u8, fraction: u32) -> bool
 }
 
 // 9 to 12 in their order, from whether each holds.
-pub fn limits_number(sum: bool, methane: bool, others: bool, water: bool) -> u8
+pub fn limits_refusal(sum: bool, methane: bool, others: bool, water: bool) -> u8
     ensures { λ r. ⌜ r ≡ firstOf (limitsOrder sum methane others water) ⌝ }
 {
     if sum {
@@ -129,7 +122,7 @@ pub fn limits_number(sum: bool, methane: bool, others: bool, water: bool) -> u8
 }
 
 // 19, 4 and 5 in their order, from whether each holds.
-fn lists_number(lists: bool, pair: bool, count: bool) -> u8
+pub fn lists_refusal(lists: bool, pair: bool, count: bool) -> u8
     ensures { λ r. ⌜ r ≡ firstOf (listsOrder lists pair count) ⌝ }
 {
     if lists {
@@ -140,35 +133,6 @@ fn lists_number(lists: bool, pair: bool, count: bool) -> u8
     }
     if count {
         return 5;
-    }
-    0
-}
-
-// The writer's conditions, for a buffer of room bytes.
-pub fn writer_refusal(
-    combustion: u8,
-    metering: u8,
-    lines: &[u8],
-    fractions: &[u32],
-    room: usize,
-) -> u8
-    ensures { λ r. ⌜ r ≡ firstOf (writerOrder (contents combustion metering (now (lines .entry)) (now (fractions .entry))) room) ⌝ }
-{
-    let n = lines.len();
-    let start = lists_number(
-        n != fractions.len(),
-        !pair_permitted(combustion, metering),
-        count_outside(n),
-    );
-    if start != 0 {
-        return start;
-    }
-    let content = scan::content_refusal(lines, fractions);
-    if content != 0 {
-        return content;
-    }
-    if room < format::record_length(n) {
-        return 20;
     }
     0
 }

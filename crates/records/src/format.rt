@@ -1,20 +1,22 @@
-// The bytes of a record: its entries read, its head and entries written.
+// The bytes of a record: what stands in them, and contents written as a record. Nothing here refuses: a caller has decided.
 ghost use mathlib.Core.Path.{_≡_};
 ghost use Prim.Native.Nat.{_+_, _≤_, _<_};
 ghost use lib.ListN.{length, getD, replicate};
-ghost use Rattle.records.specs.Format.{contents, entriesAt, recordLength, number2, number4, countIn, linesIn, fractionsIn, headBytes, entryBytes, entriesBytes, placed};
-ghost use Rattle.records.specs.Order.{firstOf, otherwise};
-ghost use Rattle.records.specs.Conditions.{headOrder, writerOrder};
-ghost use Rattle.records.specs.Calls.{writingOf};
+ghost use Rattle.records.specs.Format.{contents, headLength, entriesAt, recordLength, number2, number4, versionIn, combustionIn, meteringIn, countIn, linesIn, fractionsIn, headBytes, entryBytes, entriesBytes, bytesOf, placed};
+ghost use Rattle.records.specs.Order.{firstOf};
+ghost use Rattle.records.specs.Conditions.{markDiffers, headOrder};
 ghost use Rattle.records.specs.Answers.{padded};
 
 // The version of a record.
 pub const VERSION: u8 = 1;
 
-// Where the entries begin.
-pub const ENTRIES_AT: usize = 8;
+// The length of the head, from the mark to the entry count.
+pub const HEAD_LENGTH: usize = 8;
 
-// The length of a record of n entries.
+// Where the entries begin.
+const ENTRIES_AT: usize = HEAD_LENGTH;
+
+// The length of a record of n entries, which is where an entry n, counted from 0, would begin.
 pub fn record_length(n: usize) -> usize
     requires { ⌜ n ≤ 255 ⌝ }
     ensures { λ r. ⌜ r ≡ recordLength n ⌝ }
@@ -48,13 +50,50 @@ pub fn number_4(bytes: &[u8], at: usize) -> u32
         + 16777216 * wide(bytes[at + 3])
 }
 
+// 2, of a list that has a head.
+pub fn mark_differs(bytes: &[u8]) -> bool
+    requires { ⌜ headLength ≤ length (now bytes) ⌝ }
+    ensures { λ r. ⌜ r ≡ markDiffers (now (bytes .entry)) ⌝ }
+{
+    (bytes[0] != b'G') | (bytes[1] != b'C') | (bytes[2] != b'R')
+}
+
+// What stands in a head: the version, the pair of temperatures in °C, and the entry count.
+pub fn version_in(bytes: &[u8]) -> u32
+    requires { ⌜ headLength ≤ length (now bytes) ⌝ }
+    ensures { λ r. ⌜ r ≡ versionIn (now (bytes .entry)) ⌝ }
+{
+    number_2(bytes, 3)
+}
+
+pub fn combustion_in(bytes: &[u8]) -> u8
+    requires { ⌜ headLength ≤ length (now bytes) ⌝ }
+    ensures { λ r. ⌜ r ≡ combustionIn (now (bytes .entry)) ⌝ }
+{
+    bytes[5]
+}
+
+pub fn metering_in(bytes: &[u8]) -> u8
+    requires { ⌜ headLength ≤ length (now bytes) ⌝ }
+    ensures { λ r. ⌜ r ≡ meteringIn (now (bytes .entry)) ⌝ }
+{
+    bytes[6]
+}
+
+pub fn count_in(bytes: &[u8]) -> usize
+    requires { ⌜ headLength ≤ length (now bytes) ⌝ }
+    ensures { λ r. ⌜ (r ≡ countIn (now (bytes .entry))) × (r ≤ 255) ⌝ }
+{
+    bytes[7] as usize
+}
+
 // The line number and the fraction of the entry k, counted from 0, of a record where none of 1 to 6 holds.
 pub fn line_in(bytes: &[u8], k: usize) -> u8
     requires { ⌜ firstOf (headOrder (now bytes)) ≡ 0 ⌝ }
     requires { ⌜ k < countIn (now bytes) ⌝ }
     ensures { λ r. ⌜ r ≡ getD (linesIn (now (bytes .entry))) k 0 ⌝ }
 {
-    bytes[ENTRIES_AT + 5 * k]
+    bytes[record_length(k)]
 }
 
 pub fn fraction_in(bytes: &[u8], k: usize) -> u32
@@ -62,7 +101,7 @@ pub fn fraction_in(bytes: &[u8], k: usize) -> u32
     requires { ⌜ k < countIn (now bytes) ⌝ }
     ensures { λ r. ⌜ r ≡ getD (fractionsIn (now (bytes .entry))) k 0 ⌝ }
 {
-    number_4(bytes, ENTRIES_AT + 5 * k + 1)
+    number_4(bytes, record_length(k) + 1)
 }
 
 // The entries of a record where none of 1 to 6 holds into two arrays that hold 0.
@@ -71,7 +110,7 @@ pub fn read_entries(bytes: &[u8], lines: &mut [u8], fractions: &mut [u32])
     requires { ⌜ (now lines ≡ replicate 55 0) × (now fractions ≡ replicate 55 0) ⌝ }
     ensures { λ _. ⌜ (now (lines .exit) ≡ padded (linesIn (now (bytes .entry)))) × (now (fractions .exit) ≡ padded (fractionsIn (now (bytes .entry)))) ⌝ }
 {
-    let n = bytes[7] as usize;
+    let n = count_in(bytes);
     let mut k = 0;
     while k < n {
         lines[k] = line_in(bytes, k);
@@ -82,7 +121,7 @@ pub fn read_entries(bytes: &[u8], lines: &mut [u8], fractions: &mut [u32])
 
 // The bytes of a record before its entries.
 fn put_head(out: &mut [u8], combustion: u8, metering: u8, n: u8)
-    requires { ⌜ entriesAt ≤ length (now out) ⌝ }
+    requires { ⌜ headLength ≤ length (now out) ⌝ }
     ensures { λ _. ⌜ now (out .exit) ≡ placed (now (out .entry)) 0 (headBytes combustion metering n) ⌝ }
 {
     out[0] = b'G';
@@ -109,32 +148,23 @@ fn put_entry(out: &mut [u8], at: usize, line: u8, fraction: u32)
 
 // The entries, where they begin.
 fn put_entries(out: &mut [u8], lines: &[u8], fractions: &[u32])
-    requires { ⌜ length (now lines) ≡ length (now fractions) ⌝ }
+    requires { ⌜ (length (now lines) ≡ length (now fractions)) × (length (now lines) ≤ 55) ⌝ }
     requires { ⌜ recordLength (length (now lines)) ≤ length (now out) ⌝ }
     ensures { λ _. ⌜ now (out .exit) ≡ placed (now (out .entry)) entriesAt (entriesBytes (now (lines .entry)) (now (fractions .entry))) ⌝ }
 {
     let mut k = 0;
     while k < lines.len() {
-        put_entry(out, ENTRIES_AT + 5 * k, lines[k], fractions[k]);
+        put_entry(out, record_length(k), lines[k], fractions[k]);
         k += 1;
     }
 }
 
-// A record into the first bytes of a buffer, or nothing where the writer's order gives a number.
-pub fn put_record(
-    refusal: u8,
-    combustion: u8,
-    metering: u8,
-    lines: &[u8],
-    fractions: &[u32],
-    out: &mut [u8],
-)
-    requires { ⌜ refusal ≡ firstOf (writerOrder (contents combustion metering (now lines) (now fractions)) (length (now out))) ⌝ }
-    ensures { λ _. ⌜ now (out .exit) ≡ otherwise (now (out .entry)) (writingOf (contents combustion metering (now (lines .entry)) (now (fractions .entry))) (now (out .entry))) ⌝ }
+// Contents as a record into the first bytes of a buffer that has room for it.
+pub fn put_record(combustion: u8, metering: u8, lines: &[u8], fractions: &[u32], out: &mut [u8])
+    requires { ⌜ (length (now lines) ≡ length (now fractions)) × (length (now lines) ≤ 55) ⌝ }
+    requires { ⌜ recordLength (length (now lines)) ≤ length (now out) ⌝ }
+    ensures { λ _. ⌜ now (out .exit) ≡ placed (now (out .entry)) 0 (bytesOf (contents combustion metering (now (lines .entry)) (now (fractions .entry)))) ⌝ }
 {
-    if refusal != 0 {
-        return;
-    }
     put_head(out, combustion, metering, lines.len() as u8);
     put_entries(out, lines, fractions);
 }

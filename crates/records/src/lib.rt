@@ -1,7 +1,9 @@
 // The analysis record of document 01: read, written, and read and written again. Every list of bytes, and every composition and
 // buffer, gets its answer or the one number of its refusal.
 ghost use mathlib.Core.Path.{_≡_};
+ghost use Rattle.records.specs.Order.{firstOf};
 ghost use Rattle.records.specs.Format.{contents};
+ghost use Rattle.records.specs.Conditions.{recordOrder, writerOrder};
 ghost use Rattle.records.specs.Answers.{Reads, Writes, Rewrites, verdictOf, blank};
 
 mod conditions;
@@ -9,8 +11,11 @@ mod format;
 mod scan;
 
 pub use conditions::head_refusal;
+pub use format::combustion_in;
+pub use format::count_in;
 pub use format::fraction_in;
 pub use format::line_in;
+pub use format::metering_in;
 pub use format::number_2;
 pub use format::number_4;
 pub use scan::entries_refusal;
@@ -61,15 +66,22 @@ fn refused(number: u8) -> Reading
     }
 }
 
+// 1 to 12, 0 where none holds.
+pub fn refusal(bytes: &[u8]) -> u8
+    ensures { λ r. ⌜ r ≡ firstOf (recordOrder (now (bytes .entry))) ⌝ }
+{
+    let head = conditions::head_refusal(bytes);
+    if head != 0 {
+        return head;
+    }
+    scan::entries_refusal(bytes)
+}
+
 // Reads a record.
 pub fn read(bytes: &[u8]) -> Reading
     ensures { λ r. ⌜ Reads (now (bytes .entry)) r ⌝ }
 {
-    let head = conditions::head_refusal(bytes);
-    if head != 0 {
-        return refused(head);
-    }
-    let refusal = scan::entries_refusal(bytes);
+    let refusal = refusal(bytes);
     if refusal != 0 {
         return refused(refusal);
     }
@@ -79,13 +91,36 @@ pub fn read(bytes: &[u8]) -> Reading
     Reading {
         verdict: Verdict::Accepted,
         analysis: Analysis {
-            combustion: bytes[5],
-            metering: bytes[6],
-            count: bytes[7] as usize,
+            combustion: format::combustion_in(bytes),
+            metering: format::metering_in(bytes),
+            count: format::count_in(bytes),
             lines,
             fractions,
         },
     }
+}
+
+// The writer's conditions, for a buffer of room bytes.
+fn writer_refusal(combustion: u8, metering: u8, lines: &[u8], fractions: &[u32], room: usize) -> u8
+    ensures { λ r. ⌜ r ≡ firstOf (writerOrder (contents combustion metering (now (lines .entry)) (now (fractions .entry))) room) ⌝ }
+{
+    let n = lines.len();
+    let start = conditions::lists_refusal(
+        n != fractions.len(),
+        !conditions::pair_permitted(combustion, metering),
+        conditions::count_outside(n),
+    );
+    if start != 0 {
+        return start;
+    }
+    let content = scan::content_refusal(lines, fractions);
+    if content != 0 {
+        return content;
+    }
+    if room < format::record_length(n) {
+        return 20;
+    }
+    0
 }
 
 // Writes a record into the first bytes of a buffer, and touches no other; a refusal leaves the whole buffer as it was.
@@ -98,8 +133,10 @@ pub fn write(
 ) -> Verdict
     ensures { λ r. ⌜ Writes (contents combustion metering (now (lines .entry)) (now (fractions .entry))) (now (out .entry)) (now (out .exit)) r ⌝ }
 {
-    let refusal = conditions::writer_refusal(combustion, metering, lines, fractions, out.len());
-    format::put_record(refusal, combustion, metering, lines, fractions, out);
+    let refusal = writer_refusal(combustion, metering, lines, fractions, out.len());
+    if refusal == 0 {
+        format::put_record(combustion, metering, lines, fractions, out);
+    }
     verdict_of(refusal)
 }
 

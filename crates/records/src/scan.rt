@@ -73,13 +73,13 @@ fn with_entry(scan: Scan, line: u8, fraction: u32) -> Scan
 }
 
 // 9 to 12, after the last entry.
-fn scan_number(scan: Scan) -> u8
+fn scan_refusal(scan: Scan) -> u8
     ensures { λ r. ⌜ r ≡ firstOf (limitsOrder (ltb (scan .sum) 999900 || ltb 1000100 (scan .sum)) (ltb (scan .methane) 500000) (scan .above) (ltb (limitOf water) (scan .water))) ⌝ }
 {
     let sum_wrong = (scan.sum < 999900) | (1000100 < scan.sum);
     let methane_low = scan.methane < 500000;
     let water_high = conditions::limit_of(conditions::WATER) < scan.water;
-    conditions::limits_number(sum_wrong, methane_low, scan.above, water_high)
+    conditions::limits_refusal(sum_wrong, methane_low, scan.above, water_high)
 }
 
 // 7 of a record where none of 1 to 6 holds.
@@ -87,7 +87,7 @@ fn lines_refusal(bytes: &[u8]) -> u8
     requires { ⌜ firstOf (headOrder (now bytes)) ≡ 0 ⌝ }
     ensures { λ r. ⌜ r ≡ firstOf (linesOrder (linesIn (now (bytes .entry)))) ⌝ }
 {
-    let n = bytes[7] as usize;
+    let n = format::count_in(bytes);
     let mut before: u8 = 0;
     let mut k = 0;
     'lines: loop {
@@ -109,12 +109,12 @@ fn fractions_refusal(bytes: &[u8]) -> u8
     requires { ⌜ lineBreaks 0 (linesIn (now bytes)) ≡ false ⌝ }
     ensures { λ r. ⌜ r ≡ firstOf (fractionsOrder (linesIn (now (bytes .entry))) (fractionsIn (now (bytes .entry)))) ⌝ }
 {
-    let n = bytes[7] as usize;
+    let n = format::count_in(bytes);
     let mut scan = no_entries();
     let mut k = 0;
     'fractions: loop {
         if k >= n {
-            break 'fractions scan_number(scan);
+            break 'fractions scan_refusal(scan);
         }
         let fraction = format::fraction_in(bytes, k);
         if fraction == 0 {
@@ -167,7 +167,7 @@ fn listed_fractions_refusal(lines: &[u8], fractions: &[u32]) -> u8
     let mut k = 0;
     'fractions: loop {
         if k >= lines.len() {
-            break 'fractions scan_number(scan);
+            break 'fractions scan_refusal(scan);
         }
         let fraction = fractions[k];
         if fraction == 0 {

@@ -32,12 +32,6 @@ module _ (c : tie.After-enum-told) where
   fractions : Prefix (analysis .fractions) (analysis .count) (fractionsIn bytes)
   fractions = fractions-held bytes analysis (is .1)
 
-read-requires : tie.Need-read-requires
-read-requires c κs = tt
-
-enum-known-verdict : tie.Need-enum-known-verdict
-enum-known-verdict c = search needs
-
 enum-told : tie.Need-enum-told
 enum-told c = search needs
 
@@ -53,9 +47,6 @@ array-share-prefix-fractions c = fractions (c .before .before .before) .fits
 slice-aggregate-write-2 : tie.Need-slice-aggregate-write-2
 slice-aggregate-write-2 c = sym (fractions (c .before .before .before .before) .count)
 
-write-requires : tie.Need-write-requires
-write-requires c κs = tt
-
 returns : tie.Need-returns
 returns c =
     let r = c .before .before .before .before in
@@ -63,9 +54,6 @@ returns c =
     let v = c .before .verdict .given .1 in
     let d = refused-is (a .bytes .now) _ _ (r .read .ensures) v in
     rewrites-refused (a .bytes .now) (a .out .now) _ (d .0) (d .1)
-
-same-length : tie.Need-same-length
-same-length c = search needs
 
 returns-2 : tie.Need-returns-2
 returns-2 c =
@@ -78,14 +66,14 @@ pub rewrite-spec : {M : Type 1} → statement M
 rewrite-spec =
     tie.close
     (tie.spec
-    read-requires
-    enum-known-verdict
+    (λ c κs. tt)
+    (λ c. search needs)
     enum-told
     array-share-prefix-lines
     slice-aggregate-write
     array-share-prefix-fractions
     slice-aggregate-write-2
-    write-requires
+    (λ c κs. tt)
     returns
-    same-length
+    (λ c. search needs)
     returns-2)

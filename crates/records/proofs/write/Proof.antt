@@ -1,13 +1,16 @@
--- The number decides the buffer and the verdict.
+-- The record in the buffer, or the buffer as it was.
+use mathlib.Core.Path.{_≡_, sym, ap, _∙_}
 use mathlib.Core.List.{List}
+use mathlib.Core.Logic.{⊎-elim}
 use Prim.Native.Nat.{ℕ}
-use native.Mathlib.Omega.{arith}
 use borrow.Author.Needs.{needs}
 use lib.ListN.{length}
-use Rattle.records.specs.Order.{firstOf}
+use Rattle.records.specs.Order.{firstOf, otherwise}
 use Rattle.records.specs.Format.{Contents, contents, bytesOf, placed}
 use Rattle.records.specs.Conditions.{writerOrder}
-use Rattle.records.proofs.OrderLaws.{gives}
+use Rattle.records.specs.Calls.{writingOf}
+use Rattle.records.proofs.OrderLaws.{gives, gives-refused, gives-accepted}
+use Rattle.records.proofs.Heads.{room-of}
 use Rattle.records.proofs.write.Statement.{statement}
 use Rattle.records.proofs.write.Tie as tie
 
@@ -21,26 +24,31 @@ module _ (c : tie.After-writer-refusal) where
   abbrev old : List ℕ
   old = begin .args .out .now
 
-writer-refusal-requires : tie.Need-writer-refusal-requires
-writer-refusal-requires c κs = tt
-
 put-record-requires : tie.Need-put-record-requires
-put-record-requires c κs = omega (arith, c .before .writer-refusal .ensures)
+put-record-requires c κs =
+    let w = c .before .before in
+    let r = room-of (k w) (length (old w)) (sym (w .writer-refusal .ensures) ∙ c .before .if1 .taken) in
+    ((r .same, r .few), r .fits)
 
-verdict-of-requires : tie.Need-verdict-of-requires
-verdict-of-requires c κs = tt
+-- the buffer afterwards
+after : (j : tie.Joined1) →
+    (length (j .if1 .out) ≡ length (old (j .before))) × (j .if1 .out ≡ otherwise (old (j .before)) (writingOf (k (j .before)) (old (j .before))))
+after j =
+    let w = j .before in
+    let new = placed (old w) 0 (bytesOf (k w)) in
+    ⊎-elim
+    (λ x. (ap length (x .5) ∙ x .2 .kept .1 .1 .1 .1 .0, x .5 ∙ x .2 .ensures ∙ gives-accepted _ new (old w) (sym (w .writer-refusal .ensures) ∙ x .0 .taken) .stands))
+    (λ x. (ap length (x .1), x .1 ∙ gives-refused _ _ new (old w) (w .writer-refusal .ensures) (x .0 .left) .stands))
+    (j .if1 .came)
 
 same-length : tie.Need-same-length
-same-length c = search needs
+same-length c = after (c .before) .0
 
 returns : tie.Need-returns
 returns c =
-    let p = c .before .before .before in
-    let w = p .before .before in
-    gives (firstOf (writerOrder (k w) (length (old w)))) (placed (old w) 0 (bytesOf (k w))) (old w) _ _
-    (rw (w .writer-refusal .ensures) at (c .verdict-of .ensures)) (p .put-record .ensures)
+    let w = c .before .before in
+    gives (firstOf (writerOrder (k w) (length (old w)))) (placed (old w) 0 (bytesOf (k w))) (old w) _ _ (rw (w .writer-refusal .ensures) at (c .verdict-of .ensures)) (after (c .before) .1)
 
 pub write-spec : {M : Type 1} → statement M
 write-spec =
-    tie.close
-    (tie.spec writer-refusal-requires put-record-requires verdict-of-requires same-length returns)
+    tie.close (tie.spec (λ c κs. search needs) put-record-requires (λ c κs. search needs) same-length returns)

@@ -23,11 +23,8 @@ within l x h = low (eqb l methane) (eqb l nitrogen) (eqb l ethane || eqb l carbo
 returns : tie.Need-returns
 returns c = within (c .before .args .line) (c .before .args .fraction) (c .if1 .taken)
 
-limit-of-requires : tie.Need-limit-of-requires
-limit-of-requires c κs = tt
-
 returns-2 : tie.Need-returns-2
 returns-2 c = rw (c .limit-of .ensures)
 
 pub above-limit-spec : {M : Type 1} → statement M
-above-limit-spec = tie.close (tie.spec returns limit-of-requires returns-2)
+above-limit-spec = tie.close (tie.spec returns (λ c κs. tt) returns-2)

@@ -8,17 +8,16 @@ use Rattle.records.proofs.format.line_in.Tie as tie
 headed : (c : tie.Start) → Head (c .args .bytes .now)
 headed c = head (c .args .bytes .now) (c .pre .0)
 
-mul-result : tie.Need-mul-result
-mul-result c = omega (arith, headed c .entries .few)
-
-add-result : tie.Need-add-result
-add-result c = omega (arith, headed c .entries .few)
+record-length-requires : tie.Need-record-length-requires
+record-length-requires c κs = omega (arith, headed (c .before) .entries .few)
 
 shared-slice-read-result : tie.Need-shared-slice-read-result
-shared-slice-read-result c = omega (arith, headed (c .before) .exact)
+shared-slice-read-result c = omega (arith, headed (c .before .before .before) .exact, c .before .record-length .ensures)
 
 returns : tie.Need-returns
-returns c = line-here (c .before .args .bytes .now) (c .before .args .k) (c .before .pre .1)
+returns c =
+    let b = c .before .before .before in
+    rw (c .before .record-length .ensures) (line-here (b .args .bytes .now) (b .args .k) (b .pre .1))
 
 pub line-in-spec : {M : Type 1} → statement M
-line-in-spec = tie.close (tie.spec mul-result add-result shared-slice-read-result returns)
+line-in-spec = tie.close (tie.spec record-length-requires shared-slice-read-result returns)

@@ -17,42 +17,18 @@ abbrev μ-loop : tie.MeasureT-loop
 loop-holds : tie.Need-loop-holds Inv-loop μ-loop
 loop-holds c = (omega arith, refl, none-written _ entriesAt (c .before .before .before .args .lines .now) (c .before .before .before .args .fractions .now))
 
-mul-put-entry : tie.Need-mul-put-entry Inv-loop μ-loop
-mul-put-entry c = omega arith
-
-add-put-entry : tie.Need-add-put-entry Inv-loop μ-loop
-add-put-entry c = omega arith
-
-shared-slice-read-put-entry : tie.Need-shared-slice-read-put-entry Inv-loop μ-loop
-shared-slice-read-put-entry c = omega arith
-
-mul-put-entry-2 : tie.Need-mul-put-entry-2 Inv-loop μ-loop
-mul-put-entry-2 c = omega arith
-
-shared-slice-read-put-entry-2 : tie.Need-shared-slice-read-put-entry-2 Inv-loop μ-loop
-shared-slice-read-put-entry-2 c = omega arith
-
 put-entry-requires : tie.Need-put-entry-requires Inv-loop μ-loop
-put-entry-requires c κs = omega arith
-
-add-k : tie.Need-add-k Inv-loop μ-loop
-add-k c = omega arith
-
-loop-less : tie.Need-loop-less Inv-loop μ-loop
-loop-less c = omega arith
+put-entry-requires c κs = omega (arith, c .before .before .record-length .ensures)
 
 loop-again : tie.Need-loop-again Inv-loop μ-loop
 loop-again c =
     let p = c .before .before .put-entry in
-    let at = c .before .before .before .before .before .before .before in
+    let at = c .before .before .before .before .before .before .before .before in
     let a = at .before .before .before .before .args in (
       omega arith,
       p .kept .0 ∙ at .loop .inv .1,
-      p .ensures ∙ next-written (a .out .now) (at .loop .out) entriesAt (a .lines .now) (a .fractions .now) (at .loop .k) (omega arith) (omega arith) (omega arith) (at .loop .inv .2),
+      p .ensures ∙ rw (c .before .before .before .before .before .record-length .ensures) (next-written (a .out .now) (at .loop .out) entriesAt (a .lines .now) (a .fractions .now) (at .loop .k) (omega arith) (omega arith) (omega arith) (at .loop .inv .2)),
     )
-
-same-length : tie.Need-same-length Inv-loop μ-loop
-same-length c = omega arith
 
 returns : tie.Need-returns Inv-loop μ-loop
 returns c =
@@ -67,14 +43,13 @@ put-entries-spec =
     Inv-loop
     μ-loop
     loop-holds
-    mul-put-entry
-    add-put-entry
-    shared-slice-read-put-entry
-    mul-put-entry-2
-    shared-slice-read-put-entry-2
+    (λ c κs. omega arith)
+    (λ c. omega arith)
+    (λ c. omega arith)
+    (λ c. omega arith)
     put-entry-requires
-    add-k
-    loop-less
+    (λ c. omega arith)
+    (λ c. omega arith)
     loop-again
-    same-length
+    (λ c. omega arith)
     returns)

@@ -7,41 +7,14 @@ use Rattle.records.specs.Format.{entryBytes}
 use Rattle.records.proofs.format.put_entry.Statement.{statement}
 use Rattle.records.proofs.format.put_entry.Tie as tie
 
-slice-write-out : tie.Need-slice-write-out
-slice-write-out c = omega arith
-
-cast-out : tie.Need-cast-out
-cast-out c = omega arith
-
-add-out : tie.Need-add-out
-add-out c = omega arith
-
 slice-write-out-2 : tie.Need-slice-write-out-2
 slice-write-out-2 c = simp length-set (omega arith)
-
-cast-out-2 : tie.Need-cast-out-2
-cast-out-2 c = omega arith
-
-add-out-2 : tie.Need-add-out-2
-add-out-2 c = omega arith
 
 slice-write-out-3 : tie.Need-slice-write-out-3
 slice-write-out-3 c = simp length-set (omega arith)
 
-cast-out-3 : tie.Need-cast-out-3
-cast-out-3 c = omega arith
-
-add-out-3 : tie.Need-add-out-3
-add-out-3 c = omega arith
-
 slice-write-out-4 : tie.Need-slice-write-out-4
 slice-write-out-4 c = simp length-set (omega arith)
-
-cast-out-4 : tie.Need-cast-out-4
-cast-out-4 c = omega arith
-
-add-out-4 : tie.Need-add-out-4
-add-out-4 c = omega arith
 
 slice-write-out-5 : tie.Need-slice-write-out-5
 slice-write-out-5 c = simp length-set (omega arith)
@@ -58,18 +31,18 @@ pub put-entry-spec : {M : Type 1} → statement M
 put-entry-spec =
     tie.close
     (tie.spec
-    slice-write-out
-    cast-out
-    add-out
+    (λ c. omega arith)
+    (λ c. omega arith)
+    (λ c. omega arith)
     slice-write-out-2
-    cast-out-2
-    add-out-2
+    (λ c. omega arith)
+    (λ c. omega arith)
     slice-write-out-3
-    cast-out-3
-    add-out-3
+    (λ c. omega arith)
+    (λ c. omega arith)
     slice-write-out-4
-    cast-out-4
-    add-out-4
+    (λ c. omega arith)
+    (λ c. omega arith)
     slice-write-out-5
     same-length
     returns)

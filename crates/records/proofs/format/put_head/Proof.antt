@@ -6,9 +6,6 @@ use Rattle.records.specs.Format.{headBytes}
 use Rattle.records.proofs.format.put_head.Statement.{statement}
 use Rattle.records.proofs.format.put_head.Tie as tie
 
-slice-write-out : tie.Need-slice-write-out
-slice-write-out c = omega arith
-
 slice-write-out-2 : tie.Need-slice-write-out-2
 slice-write-out-2 c = simp length-set (omega arith)
 
@@ -40,7 +37,7 @@ pub put-head-spec : {M : Type 1} → statement M
 put-head-spec =
     tie.close
     (tie.spec
-    slice-write-out
+    (λ c. omega arith)
     slice-write-out-2
     slice-write-out-3
     slice-write-out-4

@@ -6,9 +6,6 @@ use Rattle.records.proofs.Scans.{no-line-breaks}
 use Rattle.records.proofs.scan.content_refusal.Statement.{statement}
 use Rattle.records.proofs.scan.content_refusal.Tie as tie
 
-listed-lines-refusal-requires : tie.Need-listed-lines-refusal-requires
-listed-lines-refusal-requires c κs = tt
-
 returns : tie.Need-returns
 returns c =
     let b = c .before in
@@ -29,4 +26,4 @@ returns-2 c =
     passes (linesOrder (a .lines .now)) (fractionsOrder (a .lines .now) (a .fractions .now)) tt (b .listed-lines-refusal .ensures) (e .if1 .left) (c .listed-fractions-refusal .ensures)
 
 pub content-refusal-spec : {M : Type 1} → statement M
-content-refusal-spec = tie.close (tie.spec listed-lines-refusal-requires returns listed-fractions-refusal-requires returns-2)
+content-refusal-spec = tie.close (tie.spec (λ c κs. tt) returns listed-fractions-refusal-requires returns-2)

@@ -1,12 +1,12 @@
 -- The search keeps what is noted of the entries passed.
 use mathlib.Core.Path.{_≡_, sym, _∙_}
-use mathlib.Core.List.{List}
-use Prim.Native.Nat.{ℕ, _-_}
+use Prim.Native.Nat.{_-_}
 use native.Mathlib.Omega.{arith}
-use lib.ListN.{length, drop}
-use Rattle.records.specs.Format.{entriesAt, countIn, linesIn, fractionsIn}
+use borrow.Author.Needs.{needs}
+use lib.ListN.{length}
+use Rattle.records.specs.Format.{countIn, linesIn, fractionsIn}
 use Rattle.records.proofs.Heads.{Head, head}
-use Rattle.records.proofs.Entries.{length-lines, length-fractions}
+use Rattle.records.proofs.Entries.{count-lines, count-fractions}
 use Rattle.records.proofs.Scans.{Noted, nothing-noted, zero-here, next-noted, all-noted}
 use Rattle.records.proofs.scan.fractions_refusal.Statement.{statement}
 use Rattle.records.proofs.scan.fractions_refusal.Tie as tie
@@ -17,51 +17,36 @@ Inv-fractions bytes n scan₀ k₀ scan k = Noted (linesIn bytes) (fractionsIn b
 abbrev μ-fractions : tie.MeasureT-fractions
 μ-fractions bytes n scan₀ k₀ scan k = n - k
 
-module _ (c : tie.Start Inv-fractions μ-fractions) where
-  abbrev bytes : List ℕ
-  bytes = c .args .bytes .now
+headed : (c : tie.Start Inv-fractions μ-fractions) → Head (c .args .bytes .now)
+headed c = head (c .args .bytes .now) (c .pre .0)
 
-  headed : Head bytes
-  headed = head bytes (c .pre .0)
+module _ (at : tie.At-fractions Inv-fractions μ-fractions) where
+  abbrev start : tie.Start Inv-fractions μ-fractions
+  start = at .before .before .before .before
 
-  lines : length (linesIn bytes) ≡ countIn bytes
-  lines = length-lines (countIn bytes) (drop entriesAt bytes)
+  n-is : at .before .before .count-in .result ≡ countIn (start .args .bytes .now)
+  n-is = at .before .before .count-in .ensures .0
 
-  fractions : length (fractionsIn bytes) ≡ countIn bytes
-  fractions = length-fractions (countIn bytes) (drop entriesAt bytes)
+  lines : length (linesIn (start .args .bytes .now)) ≡ at .before .before .count-in .result
+  lines = count-lines (start .args .bytes .now) ∙ sym n-is
 
-abbrev start : tie.At-fractions Inv-fractions μ-fractions → tie.Start Inv-fractions μ-fractions
-start at = at .before .before .before .before
+  fractions : length (fractionsIn (start .args .bytes .now)) ≡ at .before .before .count-in .result
+  fractions = count-fractions (start .args .bytes .now) ∙ sym n-is
 
-shared-slice-read-n : tie.Need-shared-slice-read-n Inv-fractions μ-fractions
-shared-slice-read-n c = omega (arith, headed (c .before .before) .long)
-
-cast-n : tie.Need-cast-n Inv-fractions μ-fractions
-cast-n c = omega (arith, c .shared-slice-known2 .given 7)
-
-no-entries-requires : tie.Need-no-entries-requires Inv-fractions μ-fractions
-no-entries-requires c κs = tt
+count-in-requires : tie.Need-count-in-requires Inv-fractions μ-fractions
+count-in-requires c κs = headed (c .before) .long
 
 fractions-holds : tie.Need-fractions-holds Inv-fractions μ-fractions
 fractions-holds c = rw (c .no-entries .ensures) (nothing-noted _ _ (c .before .before .before .pre .1))
 
-scan-number-requires : tie.Need-scan-number-requires Inv-fractions μ-fractions
-scan-number-requires c κs = tt
-
 fraction-in-requires : tie.Need-fraction-in-requires Inv-fractions μ-fractions
-fraction-in-requires c κs = (start (c .before) .pre .0, omega arith)
+fraction-in-requires c κs = (start (c .before) .pre .0, omega (arith, n-is (c .before)))
 
 line-in-requires : tie.Need-line-in-requires Inv-fractions μ-fractions
-line-in-requires c κs = (start (c .before .before .before) .pre .0, omega arith)
+line-in-requires c κs = let at = c .before .before .before in (start at .pre .0, omega (arith, n-is at))
 
 with-entry-requires : tie.Need-with-entry-requires Inv-fractions μ-fractions
-with-entry-requires c κs = omega (arith, headed (start (c .before .before .before .before)) .entries .few)
-
-add-k : tie.Need-add-k Inv-fractions μ-fractions
-add-k c = omega (arith, headed (start (c .before .before .before .before .before)) .entries .few)
-
-fractions-less : tie.Need-fractions-less Inv-fractions μ-fractions
-fractions-less c = omega arith
+with-entry-requires c κs = let at = c .before .before .before .before in omega (arith, headed (start at) .entries .few, n-is at)
 
 fractions-again : tie.Need-fractions-again Inv-fractions μ-fractions
 fractions-again c =
@@ -71,18 +56,18 @@ fractions-again c =
     let at = f .before .before in
     let w = c .with-entry .ensures in
     rw (w .0, w .1 .0, w .1 .1 .0, w .1 .1 .1, i .line-in .ensures, f .fraction-in .ensures)
-    (next-noted (at .fractions .inv) (omega (arith, lines (start at))) (omega (arith, fractions (start at))) (rw (f .fraction-in .ensures) at (e .if2 .left)) (omega (arith, f .fraction-in .ensures)))
+    (next-noted (at .fractions .inv) (omega (arith, lines at)) (omega (arith, fractions at)) (rw (f .fraction-in .ensures) at (e .if2 .left)) (omega (arith, f .fraction-in .ensures)))
 
 returns : tie.Need-returns Inv-fractions μ-fractions
 returns c =
     let at = c .before .before in
-    all-noted (at .fractions .inv) (omega (arith, lines (start at))) (omega (arith, fractions (start at))) (c .scan-number .ensures)
+    all-noted (at .fractions .inv) (omega (arith, lines at)) (omega (arith, fractions at)) (c .scan-refusal .ensures)
 
 returns-2 : tie.Need-returns-2 Inv-fractions μ-fractions
 returns-2 c =
     let f = c .before in
     let at = f .before .before in
-    zero-here (at .fractions .inv) (omega (arith, lines (start at))) (omega (arith, fractions (start at))) (sym (f .fraction-in .ensures) ∙ c .if2 .taken)
+    zero-here (at .fractions .inv) (omega (arith, lines at)) (omega (arith, fractions at)) (sym (f .fraction-in .ensures) ∙ c .if2 .taken)
 
 pub fractions-refusal-spec : {M : Type 1} → statement M
 fractions-refusal-spec =
@@ -90,16 +75,15 @@ fractions-refusal-spec =
     (tie.spec
     Inv-fractions
     μ-fractions
-    shared-slice-read-n
-    cast-n
-    no-entries-requires
+    count-in-requires
+    (λ c κs. tt)
     fractions-holds
-    scan-number-requires
+    (λ c κs. tt)
     fraction-in-requires
     line-in-requires
     with-entry-requires
-    add-k
-    fractions-less
+    (λ c. search needs)
+    (λ c. omega arith)
     fractions-again
     returns
     returns-2)

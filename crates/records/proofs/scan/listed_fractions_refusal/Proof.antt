@@ -12,32 +12,8 @@ Inv-fractions lines fractions scan₀ k₀ scan k = Noted lines fractions (scan 
 abbrev μ-fractions : tie.MeasureT-fractions
 μ-fractions lines fractions scan₀ k₀ scan k = length lines - k
 
-no-entries-requires : tie.Need-no-entries-requires Inv-fractions μ-fractions
-no-entries-requires c κs = tt
-
 fractions-holds : tie.Need-fractions-holds Inv-fractions μ-fractions
 fractions-holds c = rw (c .no-entries .ensures) (nothing-noted _ _ (c .before .before .before .pre .1 .1))
-
-scan-number-requires : tie.Need-scan-number-requires Inv-fractions μ-fractions
-scan-number-requires c κs = tt
-
-mul-fraction : tie.Need-mul-fraction Inv-fractions μ-fractions
-mul-fraction c = omega arith
-
-shared-slice-read-fraction : tie.Need-shared-slice-read-fraction Inv-fractions μ-fractions
-shared-slice-read-fraction c = omega arith
-
-shared-slice-read-with-entry : tie.Need-shared-slice-read-with-entry Inv-fractions μ-fractions
-shared-slice-read-with-entry c = omega arith
-
-with-entry-requires : tie.Need-with-entry-requires Inv-fractions μ-fractions
-with-entry-requires c κs = omega arith
-
-add-k : tie.Need-add-k Inv-fractions μ-fractions
-add-k c = omega arith
-
-fractions-less : tie.Need-fractions-less Inv-fractions μ-fractions
-fractions-less c = omega arith
 
 fractions-again : tie.Need-fractions-again Inv-fractions μ-fractions
 fractions-again c =
@@ -48,7 +24,7 @@ fractions-again c =
     (next-noted (at .fractions .inv) (omega arith) (omega arith) (e .if2 .left) (omega (arith, e .before .shared-slice-known3 .given (at .fractions .k))))
 
 returns : tie.Need-returns Inv-fractions μ-fractions
-returns c = all-noted (c .before .before .fractions .inv) (omega arith) (omega arith) (c .scan-number .ensures)
+returns c = all-noted (c .before .before .fractions .inv) (omega arith) (omega arith) (c .scan-refusal .ensures)
 
 returns-2 : tie.Need-returns-2 Inv-fractions μ-fractions
 returns-2 c = zero-here (c .before .before .before .fractions .inv) (omega arith) (omega arith) (c .if2 .taken)
@@ -59,15 +35,15 @@ listed-fractions-refusal-spec =
     (tie.spec
     Inv-fractions
     μ-fractions
-    no-entries-requires
+    (λ c κs. tt)
     fractions-holds
-    scan-number-requires
-    mul-fraction
-    shared-slice-read-fraction
-    shared-slice-read-with-entry
-    with-entry-requires
-    add-k
-    fractions-less
+    (λ c κs. tt)
+    (λ c. omega arith)
+    (λ c. omega arith)
+    (λ c. omega arith)
+    (λ c κs. omega arith)
+    (λ c. omega arith)
+    (λ c. omega arith)
     fractions-again
     returns
     returns-2)

@@ -16,18 +16,6 @@ abbrev μ-lines : tie.MeasureT-lines
 lines-holds : tie.Need-lines-holds Inv-lines μ-lines
 lines-holds c = none-passed _
 
-shared-slice-read-line : tie.Need-shared-slice-read-line Inv-lines μ-lines
-shared-slice-read-line c = omega arith
-
-line-breaks-requires : tie.Need-line-breaks-requires Inv-lines μ-lines
-line-breaks-requires c κs = tt
-
-add-k : tie.Need-add-k Inv-lines μ-lines
-add-k c = omega arith
-
-lines-less : tie.Need-lines-less Inv-lines μ-lines
-lines-less c = omega arith
-
 lines-again : tie.Need-lines-again Inv-lines μ-lines
 lines-again c =
     let b = c .before in
@@ -48,10 +36,10 @@ listed-lines-refusal-spec =
     Inv-lines
     μ-lines
     lines-holds
-    shared-slice-read-line
-    line-breaks-requires
-    add-k
-    lines-less
+    (λ c. omega arith)
+    (λ c κs. tt)
+    (λ c. omega arith)
+    (λ c. omega arith)
     lines-again
     returns
     returns-2)

@@ -1,6 +1,6 @@
 -- Each return is one place of the order, whatever the numbers are.
-use Rattle.records.proofs.conditions.limits_number.Statement.{statement}
-use Rattle.records.proofs.conditions.limits_number.Tie as tie
+use Rattle.records.proofs.conditions.limits_refusal.Statement.{statement}
+use Rattle.records.proofs.conditions.limits_refusal.Tie as tie
 
 returns : tie.Need-returns
 returns c = rw (c .if1 .taken)
@@ -17,5 +17,5 @@ returns-4 c = rw (c .before .before .before .if1 .left, c .before .before .if2 .
 returns-5 : tie.Need-returns-5
 returns-5 c = rw (c .before .before .before .if1 .left, c .before .before .if2 .left, c .before .if3 .left, c .if4 .left)
 
-pub limits-number-spec : {M : Type 1} → statement M
-limits-number-spec = tie.close (tie.spec returns returns-2 returns-3 returns-4 returns-5)
+pub limits-refusal-spec : {M : Type 1} → statement M
+limits-refusal-spec = tie.close (tie.spec returns returns-2 returns-3 returns-4 returns-5)

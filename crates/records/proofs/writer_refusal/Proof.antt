@@ -10,10 +10,10 @@ use Rattle.records.specs.Format.{Contents, contents}
 use Rattle.records.specs.Conditions.{startOrder, contentOrder, roomOrder, writerOrder}
 use Rattle.records.proofs.OrderLaws.{stops, passes}
 use Rattle.records.proofs.Heads.{Start, start}
-use Rattle.records.proofs.conditions.writer_refusal.Statement.{statement}
-use Rattle.records.proofs.conditions.writer_refusal.Tie as tie
+use Rattle.records.proofs.writer_refusal.Statement.{statement}
+use Rattle.records.proofs.writer_refusal.Tie as tie
 
-module _ (c : tie.After-lists-number) where
+module _ (c : tie.After-lists-refusal) where
   abbrev begin : tie.Start
   begin = c .before .before .before .before .before
 
@@ -23,8 +23,8 @@ module _ (c : tie.After-lists-number) where
   abbrev room : ℕ
   room = begin .args .room
 
-  starts : c .lists-number .result ≡ firstOf (startOrder k)
-  starts = c .lists-number .ensures ∙ simp (c .before .count-outside .ensures, c .before .before .pair-permitted .ensures)
+  starts : c .lists-refusal .result ≡ firstOf (startOrder k)
+  starts = c .lists-refusal .ensures ∙ simp (c .before .count-outside .ensures, c .before .before .pair-permitted .ensures)
 
 -- where none of 19, 4 and 5 holds
 module _ (c : tie.Else1) where
@@ -44,15 +44,6 @@ pass-content c r h =
     let b = c .before .before in
     let a = b .before in
     pass-start b r (passes (contentOrder (k a .lines) (k a .fractions)) (roomOrder (room a) (length (k a .lines))) tt (c .before .content-refusal .ensures) (c .if2 .left) h)
-
-pair-permitted-requires : tie.Need-pair-permitted-requires
-pair-permitted-requires c κs = tt
-
-count-outside-requires : tie.Need-count-outside-requires
-count-outside-requires c κs = tt
-
-lists-number-requires : tie.Need-lists-number-requires
-lists-number-requires c κs = tt
 
 returns : tie.Need-returns
 returns c =
@@ -81,9 +72,9 @@ pub writer-refusal-spec : {M : Type 1} → statement M
 writer-refusal-spec =
     tie.close
     (tie.spec
-    pair-permitted-requires
-    count-outside-requires
-    lists-number-requires
+    (λ c κs. tt)
+    (λ c κs. tt)
+    (λ c κs. tt)
     returns
     content-refusal-requires
     returns-2
