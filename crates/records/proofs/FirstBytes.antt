@@ -13,7 +13,7 @@ use lib.Seq.{take-all, getD-take, length-take-le}
 use Rattle.records.specs.Order.{firstOf, refused, decided}
 use Rattle.records.specs.Format.{recordLength, combustionIn, meteringIn, countIn, linesIn, fractionsIn, contentsIn}
 use Rattle.records.specs.Conditions.{markDiffers, versionDiffers, pairRefused, countOutside, lengthDiffers, fieldsOrder, headOrder, contentOrder}
-use Rattle.records.specs.Calls.{readingOf, enough, FirstBytesDecide}
+use Rattle.records.specs.Calls.{readingOf, enough, FirstBytesDecideReading}
 use Rattle.records.proofs.OrderLaws.{stops, refuses, neither}
 
 -- the sixth condition holds where the fifth does not
@@ -88,7 +88,7 @@ module _ (bs : List ℕ) (h : enough ≤ length bs) where
   cut-short : readingOf (take enough bs) ≡ readingOf bs
   cut-short = refused-long (take enough bs) (omega (arith, cut)) ∙ ap refused same-number ∙ sym (refused-long bs h)
 
-pub first-bytes-decide : FirstBytesDecide
+pub first-bytes-decide : FirstBytesDecideReading
 first-bytes-decide bs = either (decLe enough (length bs))
   where
     either : Dec (enough ≤ length bs) → readingOf (take enough bs) ≡ readingOf bs

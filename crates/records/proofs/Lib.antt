@@ -1,12 +1,12 @@
 pub mod OrderLaws
-pub mod Placing
+mod Placing
 pub mod Heads
 pub mod RoundTrips
 mod Scans
 mod Digits
 pub mod Entries
-pub mod ReadLaws
+mod ReadLaws
 pub mod Accepted
 pub mod FirstBytes
-pub mod Cases
+mod Cases
 mod Numbers

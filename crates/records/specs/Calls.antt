@@ -24,5 +24,5 @@ abbrev pub enough : ℕ
 enough = recordLength 55 + 1
 
 -- so many bytes decide what reading gives: a reader of a longer input need not go on
-abbrev pub FirstBytesDecide : Type 0
-FirstBytesDecide = (bs : List ℕ) → readingOf (take enough bs) ≡ readingOf bs
+abbrev pub FirstBytesDecideReading : Type 0
+FirstBytesDecideReading = (bs : List ℕ) → readingOf (take enough bs) ≡ readingOf bs
