@@ -1,5 +1,4 @@
-//! Times the proved properties of a record against the plain ones, in one process: with the component table lent, and made anew for
-//! each record.
+//! Times the proved properties of a record against the plain ones, in one process.
 //!
 //! `cargo bench --offline --bench ratio`
 
@@ -33,12 +32,7 @@ fn main() {
         "{REPETITIONS} repetitions of about {} ms for each side",
         SLICE.as_millis()
     );
-    let calculator = loonstool::Calculator::new();
-    let mut slower = Vec::new();
-    slower.extend(table("table lent", &|record| {
-        calculator.properties_of(record)
-    }));
-    slower.extend(table("table made", &loonstool::properties_of));
+    let slower = table("record", &loonstool::properties_of);
     match slower.as_slice() {
         [] => println!("slower than plain by more than {NOISE}: none"),
         names => println!(

@@ -3,9 +3,7 @@
 mod cases;
 
 use cases::{K1, K1_PROPERTIES};
-use loonstool::{
-    properties_of, read, record_bytes, write, Analysis, Calculator, Properties, Refusal,
-};
+use loonstool::{properties_of, read, record_bytes, write, Analysis, Properties, Refusal};
 
 const BYTES: usize = record_bytes(8);
 
@@ -61,7 +59,6 @@ fn expect_refused(record: &[u8], refusal: Refusal) {
         record.len()
     );
     assert_eq!(read(record), Err(refusal), "{} bytes", record.len());
-    assert_eq!(Calculator::new().properties_of(record), Err(refusal));
 }
 
 /// Writes K1 into a buffer of 0x5a, and sees that every byte that is not filled is as it was.
@@ -100,11 +97,6 @@ fn unaligned_bytes() {
         let record = &mut place[at..at + BYTES];
         record.copy_from_slice(&k1_record());
         assert_eq!(properties_of(record), Ok(k1_properties()));
-        assert_eq!(Calculator::new().properties_of(record), Ok(k1_properties()));
-        assert_eq!(
-            Calculator::default().properties_of(record),
-            Ok(k1_properties())
-        );
         assert_eq!(read(record), Ok(k1_analysis()));
         expect_written(record, Ok(BYTES));
         expect_written(&mut place[at..], Ok(BYTES));

@@ -9,7 +9,7 @@ mod plain;
 mod records;
 mod sides;
 
-use loonstool::{Calculator, Properties};
+use loonstool::Properties;
 use records::{case, Draft, Limits, Random, WriterCall, PAIRS};
 use std::fmt::Write as _;
 use std::io::IsTerminal;
@@ -134,11 +134,10 @@ fn run(arguments: &Arguments) -> ExitCode {
 fn compare_all(arguments: &Arguments) -> Result<Counts, String> {
     let mut random = Random::new(arguments.seed);
     let mut counts = Counts::none();
-    let calculator = Calculator::new();
     let progress = std::io::stderr().is_terminal();
     for number in 1..=arguments.records {
         let (record, call) = case(&mut random);
-        compare_record(&record, &calculator, &mut counts)
+        compare_record(&record, &mut counts)
             .and_then(|()| compare_call(&call, &mut counts))
             .map_err(|difference| format!("record {number}: {difference}"))?;
         if progress && number % 100_000 == 0 {
@@ -259,20 +258,13 @@ fn place<T>(answer: &Result<T, u8>) -> usize {
         .map_or(0, |number| usize::from(*number))
 }
 
-fn compare_record(
-    record: &[u8],
-    calculator: &Calculator,
-    counts: &mut Counts,
-) -> Result<(), String> {
+fn compare_record(record: &[u8], counts: &mut Counts) -> Result<(), String> {
     let shown = |call: &str| format!("{call}\nrecord: {}", hex(record));
 
     let expected = plain::properties_of(record);
     let proved = sides::six(loonstool::properties_of(record));
     same(&expected, &proved, || shown("properties_of"))?;
     counts.properties[place(&expected)] += 1;
-
-    let proved = sides::six(calculator.properties_of(record));
-    same(&expected, &proved, || shown("Calculator::properties_of"))?;
     if let Ok(six) = &expected {
         within_ceilings(six).map_err(|name| shown(&format!("properties_of, ceiling of {name}")))?;
     }
