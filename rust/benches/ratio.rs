@@ -7,10 +7,9 @@
 mod cases;
 #[path = "../tests/plain/mod.rs"]
 mod plain;
-#[path = "../tests/sides/mod.rs"]
-mod sides;
 
-use cases::{record, K1};
+use cases::{every_line, record, K1};
+use loonstool::{Properties, Refusal};
 use std::hint::black_box;
 use std::time::{Duration, Instant};
 
@@ -68,39 +67,23 @@ fn measured() -> [(&'static str, Vec<u8>); 4] {
     let annex_d = record(15, 15, &K1);
     let mut mark_differs = annex_d.clone();
     mark_differs[0] ^= 1;
+    let mut wet = K1.to_vec();
+    wet[0].1 -= 201;
+    wet.insert(6, (42, 201));
     [
         ("K1, 8 lines", annex_d),
-        ("all 55 lines", all_lines()),
+        ("all 55 lines", record(15, 15, &every_line())),
         ("refused early, mark differs", mark_differs),
-        ("refused late, K1 with water 201", wet()),
+        ("refused late, K1 with water 201", record(15, 15, &wet)),
     ]
-}
-
-/// 200 of water, 1,000 of every other line but methane, methane the rest.
-fn all_lines() -> Vec<u8> {
-    let entries: Vec<(u8, u32)> = (1..=55)
-        .map(|line| match line {
-            1 => (line, 1_000_000 - 53 * 1_000 - 200),
-            42 => (line, 200),
-            _ => (line, 1_000),
-        })
-        .collect();
-    record(15, 15, &entries)
-}
-
-/// The gas of annex D with 201 of its methane exchanged for water.
-fn wet() -> Vec<u8> {
-    let mut entries = K1.to_vec();
-    entries[0].1 -= 201;
-    entries.insert(6, (42, 201));
-    record(15, 15, &entries)
 }
 
 /// Measures a record on each side that gives its answer, prints the figures, and answers the ratio of the library to plain Rust. C, which
 /// refuses little, is measured on accepted records alone.
 fn row(name: &str, record: &[u8]) -> f64 {
     let plain = plain::properties_of(record);
-    assert_eq!(sides::six(loonstool::properties_of(record)), plain);
+    let library = loonstool::properties_of(record);
+    assert_eq!(library.map_err(Refusal::number), plain);
     let (answer, sides) = match plain {
         Ok(six) => {
             assert_near(&six, in_doubles(record).expect("C accepts the record"));
@@ -131,7 +114,7 @@ fn ratios(one: &[f64], other: &[f64]) -> [f64; 3] {
 }
 
 /// C gives the same six to a few parts in a million.
-fn assert_near(six: &plain::Six, doubles: [f64; 6]) {
+fn assert_near(six: &Properties, doubles: [f64; 6]) {
     let units = [1e-9, 1e-6, 1e-6, 1e-8, 1e-8, 1e-6];
     let whole = [six.z, six.hs, six.hi, six.rho, six.d, six.w];
     for ((whole, unit), double) in whole.into_iter().zip(units).zip(doubles) {

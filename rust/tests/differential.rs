@@ -7,9 +7,8 @@
 
 mod plain;
 mod records;
-mod sides;
 
-use loonstool::Properties;
+use loonstool::{Analysis, Properties, Refusal};
 use records::{case, Draft, Limits, Random, WriterCall, PAIRS};
 use std::fmt::Write as _;
 use std::io::IsTerminal;
@@ -170,12 +169,12 @@ impl Counts {
     }
 
     /// Books the lines and the pair of an accepted record.
-    fn book(&mut self, composition: &plain::Composition) {
-        let pair = (composition.combustion, composition.metering);
+    fn book(&mut self, analysis: &Analysis) {
+        let pair = (analysis.combustion, analysis.metering);
         for (count, permitted) in self.pairs.iter_mut().zip(PAIRS) {
             *count += u64::from(pair == permitted);
         }
-        for line in &composition.lines[..composition.count] {
+        for line in &analysis.lines[..analysis.count] {
             self.lines[usize::from(*line)] += 1;
         }
     }
@@ -262,7 +261,7 @@ fn compare_record(record: &[u8], counts: &mut Counts) -> Result<(), String> {
     let shown = |call: &str| format!("{call}\nrecord: {}", hex(record));
 
     let expected = plain::properties_of(record);
-    let proved = sides::six(loonstool::properties_of(record));
+    let proved = loonstool::properties_of(record).map_err(Refusal::number);
     same(&expected, &proved, || shown("properties_of"))?;
     counts.properties[place(&expected)] += 1;
     if let Ok(six) = &expected {
@@ -270,20 +269,20 @@ fn compare_record(record: &[u8], counts: &mut Counts) -> Result<(), String> {
     }
 
     let expected = plain::read(record);
-    let proved = sides::composition(loonstool::read(record));
+    let proved = loonstool::read(record).map_err(Refusal::number);
     same(&expected, &proved, || shown("read"))?;
     counts.read[place(&expected)] += 1;
 
     counts.limits.book_record(record, place(&expected));
-    if let Ok(composition) = expected {
-        counts.book(&composition);
-        write_back(record, &composition, counts)?;
+    if let Ok(analysis) = expected {
+        counts.book(&analysis);
+        write_back(record, &analysis, counts)?;
     }
     Ok(())
 }
 
 /// The name of a property that passes its ceiling, if one does.
-fn within_ceilings(six: &plain::Six) -> Result<(), &'static str> {
+fn within_ceilings(six: &Properties) -> Result<(), &'static str> {
     let ceilings = Properties::CEILINGS;
     for (name, value, ceiling) in [
         ("Z", six.z, ceilings.z),
@@ -301,7 +300,7 @@ fn within_ceilings(six: &plain::Six) -> Result<(), &'static str> {
 }
 
 /// Writes what was read and compares the bytes with the record.
-fn write_back(record: &[u8], read: &plain::Composition, counts: &mut Counts) -> Result<(), String> {
+fn write_back(record: &[u8], read: &Analysis, counts: &mut Counts) -> Result<(), String> {
     let call = WriterCall {
         draft: Draft {
             combustion: read.combustion,
@@ -337,7 +336,7 @@ fn compare_call(call: &WriterCall, counts: &mut Counts) -> Result<Vec<u8>, Strin
         &draft.fractions,
         &mut bytes,
     );
-    let proved = proved.map_err(|refusal| refusal.number());
+    let proved = proved.map_err(Refusal::number);
     same(&expected, &proved, shown)?;
     same(&Bytes(&expected_bytes), &Bytes(&bytes), shown)?;
     let filled = expected.unwrap_or(0);

@@ -26,6 +26,8 @@ fn refusals() {
     assert_eq!(in_header, here);
     assert_eq!(here.len(), 20);
     assert!(HEADER.contains("LOONSTOOL_ACCEPTED = 0,"));
+    let says = Refusal::SUM_OUTSIDE.to_string();
+    assert_eq!(says, "refused 9: sum outside its range");
 }
 
 /// Number and condition of a comment at a definition of specs/.
