@@ -116,10 +116,9 @@ fn ratios(one: &[f64], other: &[f64]) -> [f64; 3] {
 /// C gives the same six to a few parts in a million.
 fn assert_near(six: &Properties, doubles: [f64; 6]) {
     let units = [1e-9, 1e-6, 1e-6, 1e-8, 1e-8, 1e-6];
-    let whole = [six.z, six.hs, six.hi, six.rho, six.d, six.w];
-    for ((whole, unit), double) in whole.into_iter().zip(units).zip(doubles) {
-        let six = whole as f64 * unit;
-        assert!((double / six - 1.0).abs() < 3e-6, "{double} and {six}");
+    for ((whole, unit), double) in plain::six(six).into_iter().zip(units).zip(doubles) {
+        let scaled = whole as f64 * unit;
+        assert!((double / scaled - 1.0).abs() < 3e-6, "{double}, {scaled}");
     }
 }
 

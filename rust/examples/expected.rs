@@ -71,7 +71,7 @@ fn properties_output() -> String {
 
 /// The six properties, each after its words.
 fn spread(p: &Properties, words: [&str; 6]) -> String {
-    let six = [p.z, p.hs, p.hi, p.rho, p.d, p.w].into_iter().zip(words);
+    let six = plain::six(p).into_iter().zip(words);
     six.map(|(n, word)| format!("{word}{n}")).collect()
 }
 

@@ -264,8 +264,8 @@ fn compare_record(record: &[u8], counts: &mut Counts) -> Result<(), String> {
     let proved = loonstool::properties_of(record).map_err(Refusal::number);
     same(&expected, &proved, || shown("properties_of"))?;
     counts.properties[place(&expected)] += 1;
-    if let Ok(six) = &expected {
-        within_ceilings(six).map_err(|name| shown(&format!("properties_of, ceiling of {name}")))?;
+    if expected.is_ok_and(|properties| !within_ceilings(&properties)) {
+        return Err(shown("properties_of, past a ceiling"));
     }
 
     let expected = plain::read(record);
@@ -281,22 +281,11 @@ fn compare_record(record: &[u8], counts: &mut Counts) -> Result<(), String> {
     Ok(())
 }
 
-/// The name of a property that passes its ceiling, if one does.
-fn within_ceilings(six: &Properties) -> Result<(), &'static str> {
-    let ceilings = Properties::CEILINGS;
-    for (name, value, ceiling) in [
-        ("Z", six.z, ceilings.z),
-        ("Hs", six.hs, ceilings.hs),
-        ("Hi", six.hi, ceilings.hi),
-        ("rho", six.rho, ceilings.rho),
-        ("d", six.d, ceilings.d),
-        ("W", six.w, ceilings.w),
-    ] {
-        if value > ceiling {
-            return Err(name);
-        }
-    }
-    Ok(())
+/// Whether no property passes its ceiling.
+fn within_ceilings(properties: &Properties) -> bool {
+    let ceilings = plain::six(&Properties::CEILINGS);
+    let mut six = plain::six(properties).into_iter().zip(ceilings);
+    six.all(|(property, ceiling)| property <= ceiling)
 }
 
 /// Writes what was read and compares the bytes with the record.

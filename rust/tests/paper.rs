@@ -39,11 +39,8 @@ fn write(
 
 #[test]
 fn k1_annex_d() {
-    let six = properties_of(&record(15, 15, &K1)).unwrap();
-    assert_eq!(
-        [six.z, six.hs, six.hi, six.rho, six.d, six.w],
-        K1_PROPERTIES
-    );
+    let properties = properties_of(&record(15, 15, &K1)).unwrap();
+    assert_eq!(plain::six(&properties), K1_PROPERTIES);
 }
 
 #[test]

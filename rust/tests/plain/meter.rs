@@ -1,6 +1,6 @@
 //! The meter of sixteen streams.
 
-use super::properties::properties_of;
+use super::properties::{properties_of, six};
 
 const STREAMS: usize = 16;
 const GREATEST_VOLUME: u64 = 10_000_000;
@@ -56,8 +56,7 @@ impl Meter {
     /// Puts a record's properties in force on a stream.
     pub fn analysis(&mut self, stream: usize, record: &[u8]) -> Result<(), u8> {
         let stream = self.streams.get_mut(stream).ok_or(13)?;
-        let p = properties_of(record)?;
-        let six = [p.z, p.hs, p.hi, p.rho, p.d, p.w].map(|property| property as u32);
+        let six = six(&properties_of(record)?).map(|property| property as u32);
         // An accepted record has its pair at bytes 5 and 6.
         let pair = (record[5], record[6]);
         if stream.in_force.is_some_and(|earlier| earlier.pair != pair) {

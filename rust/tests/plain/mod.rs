@@ -14,6 +14,6 @@ pub mod table;
 pub mod tally;
 
 pub use meter::Meter;
-pub use properties::properties_of;
+pub use properties::{properties_of, six};
 pub use record::{read, write};
 pub use tally::Tally;

@@ -23,17 +23,22 @@ const GIGA: u64 = 1_000_000_000;
 /// The properties of a record, refused by 1 to 12.
 pub fn properties_of(record: &[u8]) -> Result<Properties, u8> {
     let checked = check(record)?;
-    let conditions = checked.conditions();
+    let conditions = &checked.conditions;
     Ok(Sums::over(checked.entries(), conditions).properties(conditions))
+}
+
+/// Z, Hs, Hi, rho, d and W.
+pub fn six(p: &Properties) -> [u64; 6] {
+    [p.z, p.hs, p.hi, p.rho, p.d, p.w]
 }
 
 /// The unrounded Hs of a record in J/m³, with Z = 1 − (S / 10^10)².
 pub fn unrounded_hs(record: &[u8]) -> Result<Fraction, u8> {
     const ONE: u128 = 100_000_000_000_000_000_000;
     let checked = check(record)?;
-    let sums = Sums::over(checked.entries(), checked.conditions());
+    let sums = Sums::over(checked.entries(), &checked.conditions);
     let z = ONE - u128::from(sums.factor.unsigned_abs()).pow(2);
-    let d = u128::from(checked.conditions().d);
+    let d = u128::from(checked.conditions.d);
     Ok(Fraction::new(
         &[sums.superior.into(), 1_013_250, ONE],
         &[d, z],

@@ -19,15 +19,11 @@ const CARBON_DIOXIDE: u8 = 54;
 pub struct Checked<'a> {
     combustion: u8,
     metering: u8,
-    conditions: Conditions,
+    pub conditions: Conditions,
     entries: &'a [[u8; ENTRY]],
 }
 
 impl Checked<'_> {
-    pub fn conditions(&self) -> &Conditions {
-        &self.conditions
-    }
-
     /// Line number and fraction of each entry.
     pub fn entries(&self) -> impl ExactSizeIterator<Item = (u8, u32)> + '_ {
         self.entries.iter().map(entry)
