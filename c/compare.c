@@ -8,7 +8,6 @@
 
 #include "loonstool.h"
 
-extern __typeof__(loonstool_properties_with) before_loonstool_properties_with;
 extern __typeof__(loonstool_properties_of) before_loonstool_properties_of;
 extern __typeof__(loonstool_read) before_loonstool_read;
 extern __typeof__(loonstool_write) before_loonstool_write;
@@ -16,21 +15,13 @@ extern __typeof__(loonstool_write) before_loonstool_write;
 enum { TURNS = 401, CALLS = 1000, BEFORE = 0, NOW = 1 };
 
 /* a call goes through a pointer that the compiler cannot see through, so that neither side is inlined */
-static __typeof__(loonstool_properties_with) *volatile with[2] = {before_loonstool_properties_with, loonstool_properties_with};
 static __typeof__(loonstool_properties_of) *volatile of[2] = {before_loonstool_properties_of, loonstool_properties_of};
 static __typeof__(loonstool_read) *volatile read_[2] = {before_loonstool_read, loonstool_read};
 static __typeof__(loonstool_write) *volatile write_[2] = {before_loonstool_write, loonstool_write};
 
-static struct loonstool_table table;
 static uint8_t record[LOONSTOOL_RECORD_BYTES(LOONSTOOL_LINES)], lines[LOONSTOOL_LINES];
 static uint32_t fractions[LOONSTOOL_LINES];
 static size_t count;
-
-static uint8_t call_with(int side)
-{
-    struct loonstool_properties p;
-    return with[side](&table, record, LOONSTOOL_RECORD_BYTES(count), &p);
-}
 
 static uint8_t call_of(int side)
 {
@@ -93,7 +84,6 @@ static void compare(const char *gas, const char *name, uint8_t (*call)(int))
 
 static void compare_readers(const char *gas)
 {
-    compare(gas, "properties_with", call_with);
     compare(gas, "properties_of", call_of);
     compare(gas, "read", call_read);
 }
@@ -139,7 +129,6 @@ static void many_lines(size_t n)
 
 int main(void)
 {
-    loonstool_make_table(&table);
     printf("%-24s %-16s %4s %8s %8s %7s   10th to 90th\n", "record", "call", "no", "before", "now ns", "ratio");
     annex_d();
     compare_calls("K1, 8 lines");

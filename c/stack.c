@@ -11,7 +11,6 @@
 enum { STACK = 65536, BYTES = LOONSTOOL_RECORD_BYTES(LOONSTOOL_LINES) };
 
 static _Alignas(16) uint8_t stack[STACK];
-static struct loonstool_table table;
 static struct loonstool_properties properties;
 static uint8_t lines[LOONSTOOL_LINES], read_lines[LOONSTOOL_LINES], bytes[BYTES], combustion, metering;
 static uint32_t fractions[LOONSTOOL_LINES], read_fractions[LOONSTOOL_LINES];
@@ -25,16 +24,6 @@ static void nothing(void)
 static void properties_of(void)
 {
     number = loonstool_properties_of(bytes, BYTES, &properties);
-}
-
-static void properties_with(void)
-{
-    number = loonstool_properties_with(&table, bytes, BYTES, &properties);
-}
-
-static void make_table(void)
-{
-    loonstool_make_table(&table);
 }
 
 static void read_record(void)
@@ -85,10 +74,8 @@ int main(void)
         lines[i] = (uint8_t)(i + 1);
         fractions[i] = i == 0 ? 1000000 - 54 * 200 : 200;
     }
-    int wrong = above("loonstool_make_table", make_table, LOONSTOOL_STACK_MAKE_TABLE);
-    wrong |= above("loonstool_write", write_record, LOONSTOOL_STACK_WRITE);
+    int wrong = above("loonstool_write", write_record, LOONSTOOL_STACK_WRITE);
     wrong |= above("loonstool_read", read_record, LOONSTOOL_STACK_READ);
-    wrong |= above("loonstool_properties_with", properties_with, LOONSTOOL_STACK_PROPERTIES_WITH);
     wrong |= above("loonstool_properties_of", properties_of, LOONSTOOL_STACK_PROPERTIES_OF);
     return wrong;
 }

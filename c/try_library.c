@@ -12,7 +12,6 @@
 #include "loonstool.h"
 
 _Static_assert(sizeof(struct loonstool_properties) == 6 * 8, "the library fills six numbers of 64 bits");
-_Static_assert(sizeof(struct loonstool_table) == 55 * 12 * 4, "the library fills 55 lines of twelve numbers of 32 bits");
 
 enum { K1_BYTES = LOONSTOOL_RECORD_BYTES(8), ROOM = 300 };
 
@@ -21,7 +20,6 @@ static const struct loonstool_properties k1 = {997709976, 38959473, 35144879, 74
 /* What is lent to the calls, each at the end of a page of its own; for bytes, the end. */
 static uint8_t *lines;
 static uint32_t *fractions;
-static struct loonstool_table *table;
 static struct loonstool_properties *properties;
 static uint8_t *combustion, *metering, *read_lines;
 static uint32_t *read_fractions;
@@ -108,7 +106,6 @@ static void expect_refused(const uint8_t *bytes, size_t length, uint8_t number, 
 {
     mark_filled();
     expect(loonstool_properties_of(bytes, length, properties) == number, what, length);
-    expect(loonstool_properties_with(table, bytes, length, properties) == number, what, length);
     expect(read_record(bytes, length) == number, what, length);
     expect(all_marked(), what, length);
 }
@@ -118,9 +115,6 @@ static void expect_k1(const uint8_t *bytes, const char *what, size_t at)
 {
     mark_filled();
     expect(loonstool_properties_of(bytes, K1_BYTES, properties) == LOONSTOOL_ACCEPTED, what, at);
-    expect(memcmp(properties, &k1, sizeof k1) == 0, what, at);
-    mark_filled();
-    expect(loonstool_properties_with(table, bytes, K1_BYTES, properties) == LOONSTOOL_ACCEPTED, what, at);
     expect(memcmp(properties, &k1, sizeof k1) == 0, what, at);
     expect(read_record(bytes, K1_BYTES) == LOONSTOOL_ACCEPTED, what, at);
     expect(*combustion == 15 && *metering == 15 && *count == 8, what, at);
@@ -248,7 +242,6 @@ static void lend(void)
     const uint32_t k1_fractions[8] = {924700, 35000, 9800, 2200, 3400, 600, 17500, 6800};
     lines = memcpy(lent(sizeof k1_lines), k1_lines, sizeof k1_lines);
     fractions = memcpy(lent(sizeof k1_fractions), k1_fractions, sizeof k1_fractions);
-    table = lent(sizeof *table);
     bytes_end = page_end();
     filled[0] = at_page_end(sizeof *properties);
     filled[1] = at_page_end(sizeof *combustion);
@@ -268,9 +261,6 @@ int main(void)
 {
     uint8_t k1_bytes[K1_BYTES];
     lend();
-    ((uint8_t *)table)[-1] = 0x5a;
-    loonstool_make_table(table);
-    expect(((uint8_t *)table)[-1] == 0x5a, "the byte before the table", 0);
     expect(write_k1(bytes_end - K1_BYTES, K1_BYTES) == LOONSTOOL_ACCEPTED, "K1", 0);
     memcpy(k1_bytes, bytes_end - K1_BYTES, K1_BYTES);
     try_null_lengths();

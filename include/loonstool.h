@@ -1,8 +1,7 @@
 /* Natural gas properties by ISO 6976:1995: the functions of target/staticlib/libloonstool.a, which `rt staticlib loonstool` writes.
  *
- * Each function but loonstool_make_table gives LOONSTOOL_ACCEPTED or the number of its refusal; after a refusal the caller's memory is as
- * it was. Each takes whatever numbers and bytes it is given, loonstool_properties_with by a table as it was made. No call looks at more
- * than 283 bytes of a record, so its time is bounded.
+ * Each function takes whatever numbers and bytes it is given, and gives LOONSTOOL_ACCEPTED or the number of its refusal; after a refusal
+ * the caller's memory is as it was. No call looks at more than 283 bytes of a record, so its time is bounded.
  *
  * A record, numbers least significant byte first: bytes 0 to 2 the mark "GCR", 3 and 4 the version, 1, 5 the combustion temperature and
  * 6 the metering temperature in degrees Celsius, 7 the number of entries n, 1 to 55; then n entries of 5 bytes, the line number (1 byte)
@@ -18,8 +17,8 @@
  *     be NULL only for a buffer of length 0;
  *   - pointers are aligned as their type asks. Bytes have no alignment;
  *   - what is filled overlaps nothing else that is lent to the same call.
- * The functions keep nothing between calls. They may run at once in several threads; what is only read, as a record or a table, may be
- * shared, what is filled may not.
+ * The functions keep nothing between calls. They may run at once in several threads; what is only read, as a record, may be shared, what
+ * is filled may not.
  *
  * The archive is for x86-64 alone: ELF, System V calling convention, SSE2 registers, 128 bytes below the stack pointer in use. Without an
  * operating system SSE has to be switched on, and an interrupt handler leaves those 128 bytes and the xmm registers as they were. The one
@@ -70,8 +69,6 @@ enum loonstool_number {
 
 /* Bytes of stack that a call takes at most, the 128 below the stack pointer included, and beside memcpy's own. */
 #define LOONSTOOL_STACK_PROPERTIES_OF 3600
-#define LOONSTOOL_STACK_PROPERTIES_WITH 800
-#define LOONSTOOL_STACK_MAKE_TABLE 400
 #define LOONSTOOL_STACK_READ 1000
 #define LOONSTOOL_STACK_WRITE 400
 
@@ -85,22 +82,8 @@ struct loonstool_properties {
     uint64_t w;   /* Wobbe index, unit J/m3, at most 470,000,000 */
 };
 
-/* The properties of a record of `length` bytes. Refused by 1 to 12. The component table is made anew on the stack for each accepted
- * record; loonstool_properties_with takes one that was made before. */
+/* The properties of a record of `length` bytes. Refused by 1 to 12. */
 uint8_t loonstool_properties_of(const uint8_t *bytes, size_t length, struct loonstool_properties *properties);
-
-/* The component table. */
-struct loonstool_table {
-    int32_t numbers[LOONSTOOL_LINES][12];
-};
-
-/* Fills a component table, which may then be used for any number of calls. */
-void loonstool_make_table(struct loonstool_table *table);
-
-/* The same as loonstool_properties_of, with less stack and in less time. The table has to hold what loonstool_make_table filled in; a copy
- * will do. With any other numbers nothing is promised: the call may end the program, or give LOONSTOOL_ACCEPTED and wrong properties. */
-uint8_t loonstool_properties_with(const struct loonstool_table *table, const uint8_t *bytes, size_t length,
-                                  struct loonstool_properties *properties);
 
 /* Reads a record of `length` bytes: the pair of temperatures in degrees Celsius, the number of entries, and their line numbers and mole
  * fractions in ppm. It fills all LOONSTOOL_LINES places of both arrays, with 0 past the entries. Refused by 1 to 12. */

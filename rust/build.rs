@@ -1,7 +1,8 @@
 //! Links the static library that `rt staticlib loonstool` writes: from the folder that LOONSTOOL_LIB_DIR names by its whole path, or from
-//! ../target/staticlib.
+//! ../target/staticlib. The benchmarks get c/doubles.c too, where the repository and a C compiler are at hand.
 use std::env;
-use std::path::PathBuf;
+use std::path::{Path, PathBuf};
+use std::process::Command;
 
 fn main() {
     println!("cargo:rerun-if-env-changed=LOONSTOOL_LIB_DIR");
@@ -25,4 +26,23 @@ fn main() {
     println!("cargo:rerun-if-changed={}", archive.display());
     println!("cargo:rustc-link-search=native={}", folder.display());
     println!("cargo:rustc-link-lib=static=loonstool");
+    let doubles = Path::new(env!("CARGO_MANIFEST_DIR")).join("../c/doubles.c");
+    if doubles.is_file() {
+        compile_for_benches(&doubles);
+    }
+}
+
+fn compile_for_benches(source: &Path) {
+    println!("cargo:rerun-if-changed={}", source.display());
+    let object = PathBuf::from(env::var_os("OUT_DIR").expect("OUT_DIR")).join("doubles.o");
+    let compiler = env::var_os("CC").unwrap_or("cc".into());
+    let mut command = Command::new(compiler);
+    command.args(["-std=c11", "-O2", "-Wall", "-Wextra", "-Wpedantic", "-c"]);
+    match command.arg(source).arg("-o").arg(&object).status() {
+        Ok(status) if status.success() => {
+            println!("cargo:rustc-link-arg-benches={}", object.display());
+            println!("cargo:rustc-link-arg-benches=-lm");
+        }
+        _ => println!("cargo:warning=c/doubles.c is not compiled: the benchmarks cannot be linked"),
+    }
 }

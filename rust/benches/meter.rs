@@ -5,25 +5,18 @@
 //! where the compiler finds that it can write in place; and last the plain meter
 //! is changed in place.
 //!
-//! `cargo bench --offline --bench meter [-- PATH]`
+//! `cargo bench --offline --bench meter`
 
 #[path = "../tests/plain/mod.rs"]
 mod plain;
 
 use plain::Meter;
 use std::hint::black_box;
-use std::path::{Path, PathBuf};
-use std::process::{Command, ExitCode};
+use std::process::Command;
 use std::time::Instant;
 
-/// The executable where no path is given; relative to the package folder.
+/// The executable, relative to the package folder.
 const PROVED: &str = "../target/bin/time_meter";
-
-/// The arguments on which this program does the work itself: on a meter in
-/// place, and on a meter by value and returned.
-const IN_PLACE: &str = "--plain-meter-in-place";
-const BY_VALUE: &str = "--plain-meter-by-value";
-const BY_CALL: &str = "--plain-meter-by-call";
 
 const RUNS: usize = 7;
 const STREAMS: usize = 16;
@@ -32,27 +25,19 @@ const CALLS: u64 = 10_000_000;
 /// The calls, on a meter with its analyses.
 type Work = fn(Meter) -> Meter;
 
-fn main() -> ExitCode {
-    let arguments: Vec<String> = std::env::args().skip(1).collect();
-    let works = [
-        (IN_PLACE, in_place as Work),
-        (BY_VALUE, by_value),
-        (BY_CALL, by_call),
-    ];
-    for (argument, work) in works {
-        if arguments.iter().any(|given| given == argument) {
-            print!("{}", readings(&work(analysed())));
-            return ExitCode::SUCCESS;
-        }
-    }
-    let path = arguments.iter().find(|argument| !argument.starts_with('-'));
-    let path = path.map_or_else(|| PathBuf::from(PROVED), PathBuf::from);
-    match compare(&path) {
-        Ok(()) => ExitCode::SUCCESS,
-        Err(message) => {
-            println!("{message}");
-            ExitCode::FAILURE
-        }
+/// The plain meters: what each is, the argument on which this program does the
+/// work itself, and the work.
+const PLAIN: [(&str, &str, Work); 3] = [
+    ("plain, by value, a call", "--by-call", by_call),
+    ("plain, by value, inlined", "--by-value", by_value),
+    ("plain, in place", "--in-place", in_place),
+];
+
+fn main() {
+    let asked = std::env::args().nth(1).unwrap_or_default();
+    match PLAIN.iter().find(|(_, argument, _)| *argument == asked) {
+        Some((_, _, work)) => print!("{}", readings(&work(analysed()))),
+        None => compare(),
     }
 }
 
@@ -122,57 +107,36 @@ fn readings(meter: &Meter) -> String {
 }
 
 /// Runs the sides in turn, each time another first, and prints their times.
-fn compare(path: &Path) -> Result<(), String> {
-    let this = std::env::current_exe().map_err(|error| error.to_string())?;
+fn compare() {
+    let this = std::env::current_exe().expect("the path of this program");
     let mut seconds = [const { Vec::new() }; 4];
     let mut expected = None;
-    for run in 0..RUNS {
-        for turn in 0..4 {
-            let side = (run + turn) % 4;
-            let (taken, text) = match side {
-                0 => timed(&mut Command::new(path))?,
-                1 => timed(Command::new(&this).arg(BY_CALL))?,
-                2 => timed(Command::new(&this).arg(BY_VALUE))?,
-                _ => timed(Command::new(&this).arg(IN_PLACE))?,
-            };
-            seconds[side].push(taken);
-            let first = expected.get_or_insert_with(|| text.clone());
-            if *first != text {
-                return Err(format!("the texts differ:\n{first}\nand\n{text}"));
-            }
-        }
+    for turn in 0..4 * RUNS {
+        let side = (turn + turn / 4) % 4;
+        let (taken, text) = match side {
+            0 => timed(&mut Command::new(PROVED)),
+            _ => timed(Command::new(&this).arg(PLAIN[side - 1].1)),
+        };
+        seconds[side].push(taken);
+        assert_eq!(expected.get_or_insert_with(|| text.clone()), &text);
     }
     println!("{CALLS} metering calls, {RUNS} runs of each side, same text printed");
     println!("a plain meter has {} bytes", size_of::<Meter>());
-    let [proved, by_call, by_value, in_place] = seconds;
+    let [proved, plain @ ..] = seconds;
     let proved = report("proved, by value", proved);
-    for (name, seconds) in [
-        ("plain, by value, a call", by_call),
-        ("plain, by value, inlined", by_value),
-        ("plain, in place", in_place),
-    ] {
-        println!(
-            "    ratio proved/plain {:.3}",
-            proved / report(name, seconds)
-        );
+    for ((name, ..), seconds) in PLAIN.into_iter().zip(plain) {
+        let ratio = proved / report(name, seconds);
+        println!("    ratio proved/plain {ratio:.3}");
     }
-    Ok(())
 }
 
 /// Runs a command and gives its seconds and what it printed.
-fn timed(command: &mut Command) -> Result<(f64, String), String> {
-    let program = command.get_program().to_string_lossy().into_owned();
+fn timed(command: &mut Command) -> (f64, Vec<u8>) {
     let start = Instant::now();
-    let output = command
-        .output()
-        .map_err(|error| format!("{program}: {error}"))?;
+    let output = command.output().expect("the program runs");
     let seconds = start.elapsed().as_secs_f64();
-    if !output.status.success() {
-        return Err(format!("{program}: {}", output.status));
-    }
-    let text = String::from_utf8(output.stdout);
-    let text = text.map_err(|_| format!("{program} printed other than text"))?;
-    Ok((seconds, text))
+    assert!(output.status.success(), "{command:?}: {}", output.status);
+    (seconds, output.stdout)
 }
 
 /// Prints the median and the spread of a side in ms; gives the median.

@@ -1,5 +1,5 @@
-//! Times the proved properties of a record against the plain ones, in one process: with the component table lent, and made anew for
-//! each record.
+//! Times the properties of a record in one process: of the proved library, of
+//! the plain version in Rust, and of c/doubles.c.
 //!
 //! `cargo bench --offline --bench ratio`
 
@@ -7,10 +7,8 @@
 mod cases;
 #[path = "../tests/plain/mod.rs"]
 mod plain;
-#[path = "../tests/sides/mod.rs"]
-mod sides;
 
-use cases::{record, K1};
+use cases::{every_line, record, K1};
 use loonstool::{Properties, Refusal};
 use std::hint::black_box;
 use std::time::{Duration, Instant};
@@ -20,134 +18,128 @@ const REPETITIONS: usize = 101;
 /// The time each side runs in one repetition.
 const SLICE: Duration = Duration::from_millis(2);
 
-/// How far above 1 a ratio has to be for its case to be named as slower.
-const NOISE: f64 = 0.03;
-
 const WARM_UP: Duration = Duration::from_millis(200);
 
-/// A function under test. It is called through a pointer, so that no side is inlined in the loop.
-type Side<'a, T> = &'a dyn Fn(&[u8]) -> T;
+/// A side under test. It is called through a pointer, so that none is inlined in the loop.
+type Side<'a> = &'a dyn Fn(&[u8]);
 
-fn main() {
-    println!(
-        "{REPETITIONS} repetitions of about {} ms for each side",
-        SLICE.as_millis()
-    );
-    let calculator = loonstool::Calculator::new();
-    let mut slower = Vec::new();
-    slower.extend(table("table lent", &|record| {
-        calculator.properties_of(record)
-    }));
-    slower.extend(table("table made", &loonstool::properties_of));
-    match slower.as_slice() {
-        [] => println!("slower than plain by more than {NOISE}: none"),
-        names => println!(
-            "slower than plain by more than {NOISE}: {}",
-            names.join("; ")
-        ),
-    }
+/// Library, plain Rust and C.
+const SIDES: [Side; 3] = [
+    &|record| _ = black_box(loonstool::properties_of(record)),
+    &|record| _ = black_box(plain::properties_of(record)),
+    &|record| _ = black_box(in_doubles(record)),
+];
+
+extern "C" {
+    fn doubles_take_table(numbers: *const [[i32; 12]; 55]);
+    fn doubles_properties_of(bytes: *const u8, length: usize, six: *mut [f64; 6]) -> i32;
 }
 
-/// Prints the figures of a proved function for each case, and answers the cases in which it is slower.
-fn table(what: &str, proved: Side<Result<Properties, Refusal>>) -> Vec<String> {
+fn in_doubles(record: &[u8]) -> Option<[f64; 6]> {
+    let mut six = [0.0; 6];
+    // SAFETY: the slice is valid for its length, and `six` is ours.
+    let accepted = unsafe { doubles_properties_of(record.as_ptr(), record.len(), &mut six) };
+    (accepted != 0).then_some(six)
+}
+
+fn main() {
+    // SAFETY: the table is whole, and no other thread runs.
+    unsafe { doubles_take_table(&plain::table::TABLE) };
     println!(
-        "{what:<32} {:>7} {:>10} {:>10} {:>7}   10th to 90th",
-        "answer", "proved ns", "plain ns", "ratio"
+        "ns for a record: medians of {REPETITIONS} repetitions of about {} ms for each side; ratios: medians, and 10th to 90th of 100",
+        SLICE.as_millis()
     );
-    let mut slower = Vec::new();
-    for (name, record) in measured() {
-        let answer = checked_answer(&record, proved);
-        let figures = measure(&record, proved);
-        println!(
-            "{name:<32} {answer:>7} {:>10.2} {:>10.2} {:>7.3}   {:.3} to {:.3}",
-            figures.proved, figures.plain, figures.ratio, figures.tenth, figures.ninetieth
-        );
-        if figures.ratio > 1.0 + NOISE {
-            slower.push(format!("{what}: {name}"));
-        }
-    }
-    slower
+    println!(
+        "{:<32} {:>6} {:>8} {:>8} {:>8}   {:<26} library / C doubles",
+        "record", "answer", "library", "Rust", "C", "library / plain Rust"
+    );
+    let [k1, all, ..] = measured().map(|(name, record)| row(name, &record));
+    goal("K1 no slower than plain Rust, 0.03 for noise", k1, 1.03);
+    goal("55 lines at most 1.25 times plain Rust", all, 1.25);
+}
+
+fn goal(what: &str, ratio: f64, most: f64) {
+    let met = if ratio <= most { "met" } else { "not met" };
+    println!("goal: {what}: {ratio:.2}, {met}");
 }
 
 fn measured() -> [(&'static str, Vec<u8>); 4] {
     let annex_d = record(15, 15, &K1);
     let mut mark_differs = annex_d.clone();
     mark_differs[0] ^= 1;
+    let mut wet = K1.to_vec();
+    wet[0].1 -= 201;
+    wet.insert(6, (42, 201));
     [
         ("K1, 8 lines", annex_d),
-        ("all 55 lines", all_lines()),
+        ("all 55 lines", record(15, 15, &every_line())),
         ("refused early, mark differs", mark_differs),
-        ("refused late, K1 with water 201", wet()),
+        ("refused late, K1 with water 201", record(15, 15, &wet)),
     ]
 }
 
-/// 200 of water, 1,000 of every other line but methane, methane the rest.
-fn all_lines() -> Vec<u8> {
-    let entries: Vec<(u8, u32)> = (1..=55)
-        .map(|line| match line {
-            1 => (line, 1_000_000 - 53 * 1_000 - 200),
-            42 => (line, 200),
-            _ => (line, 1_000),
-        })
-        .collect();
-    record(15, 15, &entries)
-}
-
-/// The gas of annex D with 201 of its methane exchanged for water.
-fn wet() -> Vec<u8> {
-    let mut entries = K1.to_vec();
-    entries[0].1 -= 201;
-    entries.insert(6, (42, 201));
-    record(15, 15, &entries)
-}
-
-/// The answer of both sides, which is the same.
-fn checked_answer(record: &[u8], proved: Side<Result<Properties, Refusal>>) -> String {
+/// Measures a record on each side that gives its answer, prints the figures, and answers the ratio of the library to plain Rust. C, which
+/// refuses little, is measured on accepted records alone.
+fn row(name: &str, record: &[u8]) -> f64 {
     let plain = plain::properties_of(record);
-    assert_eq!(sides::six(proved(record)), plain);
-    match plain {
-        Ok(_) => String::from("six"),
-        Err(number) => number.to_string(),
-    }
-}
-
-/// Medians in ns per call, and the ratio proved by plain over the repetitions.
-struct Figures {
-    proved: f64,
-    plain: f64,
-    ratio: f64,
-    tenth: f64,
-    ninetieth: f64,
-}
-
-fn measure(record: &[u8], side: Side<Result<Properties, Refusal>>) -> Figures {
-    let proved_calls = calls_in_slice(record, side);
-    let plain_calls = calls_in_slice(record, &plain::properties_of);
-    let mut proved = Vec::new();
-    let mut plain = Vec::new();
-    for repetition in 0..REPETITIONS {
-        let mut run_proved = || proved.push(time(proved_calls, record, side));
-        let mut run_plain = || plain.push(time(plain_calls, record, &plain::properties_of));
-        if repetition % 2 == 0 {
-            run_proved();
-            run_plain();
-        } else {
-            run_plain();
-            run_proved();
+    let library = loonstool::properties_of(record);
+    assert_eq!(library.map_err(Refusal::number), plain);
+    let (answer, sides) = match plain {
+        Ok(six) => {
+            assert_near(&six, in_doubles(record).expect("C accepts the record"));
+            (String::from("six"), &SIDES[..])
+        }
+        Err(number) => (number.to_string(), &SIDES[..2]),
+    };
+    let ns = measure(record, sides);
+    print!("{name:<32} {answer:>6}");
+    for side in 0..SIDES.len() {
+        match ns.get(side) {
+            Some(ns) => print!(" {:>8.2}", percentile(ns, 50)),
+            None => print!(" {:>8}", "-"),
         }
     }
-    let mut ratios: Vec<f64> = proved.iter().zip(&plain).map(|(a, b)| a / b).collect();
-    Figures {
-        proved: percentile(&mut proved, 50),
-        plain: percentile(&mut plain, 50),
-        ratio: percentile(&mut ratios, 50),
-        tenth: percentile(&mut ratios, 10),
-        ninetieth: percentile(&mut ratios, 90),
+    for other in &ns[1..] {
+        let [tenth, median, ninetieth] = ratios(&ns[0], other);
+        print!("   {median:>7.3} ({tenth:.3} to {ninetieth:.3})");
     }
+    println!();
+    ratios(&ns[0], &ns[1])[1]
+}
+
+/// The 10th, 50th and 90th percentile of the ratios of two sides.
+fn ratios(one: &[f64], other: &[f64]) -> [f64; 3] {
+    let ratios: Vec<f64> = one.iter().zip(other).map(|(a, b)| a / b).collect();
+    [10, 50, 90].map(|percent| percentile(&ratios, percent))
+}
+
+/// C gives the same six to a few parts in a million.
+fn assert_near(six: &Properties, doubles: [f64; 6]) {
+    let units = [1e-9, 1e-6, 1e-6, 1e-8, 1e-8, 1e-6];
+    for ((whole, unit), double) in plain::six(six).into_iter().zip(units).zip(doubles) {
+        let scaled = whole as f64 * unit;
+        assert!((double / scaled - 1.0).abs() < 3e-6, "{double}, {scaled}");
+    }
+}
+
+/// The ns per call of each side in each repetition; the sides begin by turns.
+fn measure(record: &[u8], sides: &[Side]) -> Vec<Vec<f64>> {
+    let calls: Vec<u32> = sides
+        .iter()
+        .map(|side| calls_in_slice(record, side))
+        .collect();
+    let mut ns = vec![Vec::new(); sides.len()];
+    for repetition in 0..REPETITIONS {
+        for turn in 0..sides.len() {
+            let side = (repetition + turn) % sides.len();
+            ns[side].push(time(calls[side], record, sides[side]));
+        }
+    }
+    ns
 }
 
 /// Warms up, and gives the number of calls that take about one slice.
-fn calls_in_slice<T>(record: &[u8], side: Side<T>) -> u32 {
+fn calls_in_slice(record: &[u8], side: Side) -> u32 {
     const CALLS: u32 = 1_000;
     let start = Instant::now();
     let mut least = f64::INFINITY;
@@ -158,17 +150,18 @@ fn calls_in_slice<T>(record: &[u8], side: Side<T>) -> u32 {
 }
 
 /// The ns per call over a number of calls.
-fn time<T>(calls: u32, record: &[u8], side: Side<T>) -> f64 {
+fn time(calls: u32, record: &[u8], side: Side) -> f64 {
     let side = black_box(side);
     let start = Instant::now();
     for _ in 0..calls {
-        black_box(side(black_box(record)));
+        side(black_box(record));
     }
     start.elapsed().as_nanos() as f64 / f64::from(calls)
 }
 
-/// The given percentile; sorts the figures.
-fn percentile(figures: &mut [f64], percent: usize) -> f64 {
+/// The given percentile.
+fn percentile(figures: &[f64], percent: usize) -> f64 {
+    let mut figures = figures.to_vec();
     figures.sort_unstable_by(f64::total_cmp);
     figures[(figures.len() - 1) * percent / 100]
 }

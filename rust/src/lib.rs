@@ -2,8 +2,8 @@
 //! `include/loonstool.h` in the repository, which also has the format of a record and its limits). The library is for x86-64.
 //!
 //! The exported functions take whatever bytes and numbers they are given. What they require of a caller is that pointers are valid
-//! for their lengths, aligned, and that what is filled overlaps nothing else. Rust's slices and `&mut` have all of that. One requires
-//! the component table as it was made, which a [`Calculator`] holds and nothing else can write. So there is nothing left to test.
+//! for their lengths, aligned, and that what is filled overlaps nothing else. Rust's slices and `&mut` have all of that, so there is
+//! nothing left to test.
 //!
 //! ```
 //! let lines = [1];
@@ -84,19 +84,7 @@ pub struct Analysis {
     pub fractions: [u32; LINES],
 }
 
-/// The component table: a line has twelve columns.
-type Table = [[i32; 12]; LINES];
-
 extern "sysv64" {
-    fn loonstool_make_table(table: *mut Table);
-
-    fn loonstool_properties_with(
-        table: *const Table,
-        bytes: *const u8,
-        length: usize,
-        properties: *mut Properties,
-    ) -> u8;
-
     fn loonstool_properties_of(bytes: *const u8, length: usize, properties: *mut Properties) -> u8;
 
     fn loonstool_read(
@@ -121,8 +109,7 @@ extern "sysv64" {
     ) -> u8;
 }
 
-/// The properties of a record. Refused by 1 to 12. The component table is made anew for each accepted record; [`Calculator`] makes it
-/// once.
+/// The properties of a record. Refused by 1 to 12.
 #[inline]
 pub fn properties_of(bytes: &[u8]) -> Result<Properties, Refusal> {
     let mut properties = MaybeUninit::uninit();
@@ -132,49 +119,6 @@ pub fn properties_of(bytes: &[u8]) -> Result<Properties, Refusal> {
     Refusal::unless_accepted(number)?;
     // SAFETY: an accepted call fills all six.
     Ok(unsafe { properties.assume_init() })
-}
-
-/// The component table, made once for many records. It takes 2,640 bytes, which a call then does not need on the stack.
-#[derive(Clone)]
-pub struct Calculator {
-    table: Table,
-}
-
-impl Calculator {
-    /// Makes the table.
-    pub fn new() -> Calculator {
-        let mut table = MaybeUninit::uninit();
-        // SAFETY: `table` is ours, and the call fills it whole.
-        let table = unsafe {
-            loonstool_make_table(table.as_mut_ptr());
-            table.assume_init()
-        };
-        Calculator { table }
-    }
-
-    /// The properties of a record, as [`properties_of`] gives them.
-    #[inline]
-    pub fn properties_of(&self, bytes: &[u8]) -> Result<Properties, Refusal> {
-        let mut properties = MaybeUninit::uninit();
-        // SAFETY: the slice is valid for its length, `properties` is ours, and the table is as it was made: `new` alone writes it.
-        let number = unsafe {
-            loonstool_properties_with(
-                &self.table,
-                bytes.as_ptr(),
-                bytes.len(),
-                properties.as_mut_ptr(),
-            )
-        };
-        Refusal::unless_accepted(number)?;
-        // SAFETY: an accepted call fills all six.
-        Ok(unsafe { properties.assume_init() })
-    }
-}
-
-impl Default for Calculator {
-    fn default() -> Calculator {
-        Calculator::new()
-    }
 }
 
 /// Reads a record. Refused by 1 to 12.

@@ -7,9 +7,8 @@
 
 mod plain;
 mod records;
-mod sides;
 
-use loonstool::{Calculator, Properties};
+use loonstool::{Analysis, Properties, Refusal};
 use records::{case, Draft, Limits, Random, WriterCall, PAIRS};
 use std::fmt::Write as _;
 use std::io::IsTerminal;
@@ -134,11 +133,10 @@ fn run(arguments: &Arguments) -> ExitCode {
 fn compare_all(arguments: &Arguments) -> Result<Counts, String> {
     let mut random = Random::new(arguments.seed);
     let mut counts = Counts::none();
-    let calculator = Calculator::new();
     let progress = std::io::stderr().is_terminal();
     for number in 1..=arguments.records {
         let (record, call) = case(&mut random);
-        compare_record(&record, &calculator, &mut counts)
+        compare_record(&record, &mut counts)
             .and_then(|()| compare_call(&call, &mut counts))
             .map_err(|difference| format!("record {number}: {difference}"))?;
         if progress && number % 100_000 == 0 {
@@ -171,12 +169,12 @@ impl Counts {
     }
 
     /// Books the lines and the pair of an accepted record.
-    fn book(&mut self, composition: &plain::Composition) {
-        let pair = (composition.combustion, composition.metering);
+    fn book(&mut self, analysis: &Analysis) {
+        let pair = (analysis.combustion, analysis.metering);
         for (count, permitted) in self.pairs.iter_mut().zip(PAIRS) {
             *count += u64::from(pair == permitted);
         }
-        for line in &composition.lines[..composition.count] {
+        for line in &analysis.lines[..analysis.count] {
             self.lines[usize::from(*line)] += 1;
         }
     }
@@ -259,57 +257,39 @@ fn place<T>(answer: &Result<T, u8>) -> usize {
         .map_or(0, |number| usize::from(*number))
 }
 
-fn compare_record(
-    record: &[u8],
-    calculator: &Calculator,
-    counts: &mut Counts,
-) -> Result<(), String> {
+fn compare_record(record: &[u8], counts: &mut Counts) -> Result<(), String> {
     let shown = |call: &str| format!("{call}\nrecord: {}", hex(record));
 
     let expected = plain::properties_of(record);
-    let proved = sides::six(loonstool::properties_of(record));
+    let proved = loonstool::properties_of(record).map_err(Refusal::number);
     same(&expected, &proved, || shown("properties_of"))?;
     counts.properties[place(&expected)] += 1;
-
-    let proved = sides::six(calculator.properties_of(record));
-    same(&expected, &proved, || shown("Calculator::properties_of"))?;
-    if let Ok(six) = &expected {
-        within_ceilings(six).map_err(|name| shown(&format!("properties_of, ceiling of {name}")))?;
+    if expected.is_ok_and(|properties| !within_ceilings(&properties)) {
+        return Err(shown("properties_of, past a ceiling"));
     }
 
     let expected = plain::read(record);
-    let proved = sides::composition(loonstool::read(record));
+    let proved = loonstool::read(record).map_err(Refusal::number);
     same(&expected, &proved, || shown("read"))?;
     counts.read[place(&expected)] += 1;
 
     counts.limits.book_record(record, place(&expected));
-    if let Ok(composition) = expected {
-        counts.book(&composition);
-        write_back(record, &composition, counts)?;
+    if let Ok(analysis) = expected {
+        counts.book(&analysis);
+        write_back(record, &analysis, counts)?;
     }
     Ok(())
 }
 
-/// The name of a property that passes its ceiling, if one does.
-fn within_ceilings(six: &plain::Six) -> Result<(), &'static str> {
-    let ceilings = Properties::CEILINGS;
-    for (name, value, ceiling) in [
-        ("Z", six.z, ceilings.z),
-        ("Hs", six.hs, ceilings.hs),
-        ("Hi", six.hi, ceilings.hi),
-        ("rho", six.rho, ceilings.rho),
-        ("d", six.d, ceilings.d),
-        ("W", six.w, ceilings.w),
-    ] {
-        if value > ceiling {
-            return Err(name);
-        }
-    }
-    Ok(())
+/// Whether no property passes its ceiling.
+fn within_ceilings(properties: &Properties) -> bool {
+    let ceilings = plain::six(&Properties::CEILINGS);
+    let mut six = plain::six(properties).into_iter().zip(ceilings);
+    six.all(|(property, ceiling)| property <= ceiling)
 }
 
 /// Writes what was read and compares the bytes with the record.
-fn write_back(record: &[u8], read: &plain::Composition, counts: &mut Counts) -> Result<(), String> {
+fn write_back(record: &[u8], read: &Analysis, counts: &mut Counts) -> Result<(), String> {
     let call = WriterCall {
         draft: Draft {
             combustion: read.combustion,
@@ -345,7 +325,7 @@ fn compare_call(call: &WriterCall, counts: &mut Counts) -> Result<Vec<u8>, Strin
         &draft.fractions,
         &mut bytes,
     );
-    let proved = proved.map_err(|refusal| refusal.number());
+    let proved = proved.map_err(Refusal::number);
     same(&expected, &proved, shown)?;
     same(&Bytes(&expected_bytes), &Bytes(&bytes), shown)?;
     let filled = expected.unwrap_or(0);

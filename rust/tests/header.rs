@@ -26,6 +26,8 @@ fn refusals() {
     assert_eq!(in_header, here);
     assert_eq!(here.len(), 20);
     assert!(HEADER.contains("LOONSTOOL_ACCEPTED = 0,"));
+    let says = Refusal::SUM_OUTSIDE.to_string();
+    assert_eq!(says, "refused 9: sum outside its range");
 }
 
 /// Number and condition of a comment at a definition of specs/.
@@ -85,13 +87,9 @@ fn declared_in_rust() -> Vec<(&'static str, Vec<&'static str>)> {
 #[test]
 fn declarations() {
     let declared = declared_in_rust();
-    assert_eq!(declared.len(), 5);
+    assert_eq!(declared.len(), 3);
     for (function, names) in declared {
-        let returned = match function {
-            "loonstool_make_table" => "void",
-            _ => "uint8_t",
-        };
-        let start = format!("\n{returned} {function}(");
+        let start = format!("\nuint8_t {function}(");
         let (_, rest) = HEADER.split_once(&start).expect(function);
         assert_eq!(parameters(rest, name_in_c), names, "{function}");
     }

@@ -1,28 +1,20 @@
-//! The gas of annex D, case K1, and records of given entries.
+//! Gases and records with document 01's answers, for the tests, the benchmarks and `examples/expected.rs`.
 
-// Each test and benchmark that includes this module uses a part of it.
+// Each program that includes this module uses a part of it.
 #![allow(dead_code)]
 
-/// Line numbers and fractions of K1.
-pub const K1: [(u8, u32); 8] = [
-    (1, 924_700),
-    (2, 35_000),
-    (3, 9_800),
-    (4, 2_200),
-    (5, 3_400),
-    (6, 600),
-    (52, 17_500),
-    (54, 6_800),
-];
+/// Line numbers and fractions of K1, the gas of annex D.
+#[rustfmt::skip]
+pub const K1: [(u8, u32); 8] =
+    [(1, 924_700), (2, 35_000), (3, 9_800), (4, 2_200), (5, 3_400), (6, 600), (52, 17_500), (54, 6_800)];
 
 /// Z, Hs, Hi, rho, d and W of K1 at 15/15.
-pub const K1_PROPERTIES: [u64; 6] = [
-    997_709_976,
-    38_959_473,
-    35_144_879,
-    74_087_496,
-    60_459_367,
-    50_105_024,
+#[rustfmt::skip]
+pub const K1_PROPERTIES: [u64; 6] = [997_709_976, 38_959_473, 35_144_879, 74_087_496, 60_459_367, 50_105_024];
+
+/// The record of K2.
+pub const K2: [u8; 13] = [
+    0x47, 0x43, 0x52, 0x01, 0x00, 0x0F, 0x0F, 0x01, 0x01, 0x40, 0x42, 0x0F, 0x00,
 ];
 
 /// A record with the given pair and entries, unchecked.
@@ -34,4 +26,128 @@ pub fn record(combustion: u8, metering: u8, entries: &[(u8, u32)]) -> Vec<u8> {
         bytes.extend(fraction.to_le_bytes());
     }
     bytes
+}
+
+/// Methane up to 1,000,000, and other lines with their fractions.
+pub fn methane_and(others: &[(u8, u32)]) -> Vec<(u8, u32)> {
+    let rest: u32 = others.iter().map(|(_, fraction)| fraction).sum();
+    [&[(1, 1_000_000 - rest)], others].concat()
+}
+
+/// Every line: water 200, the others but methane 500 each.
+pub fn every_line() -> Vec<(u8, u32)> {
+    let others = (2..=55).map(|line| (line, if line == 42 { 200 } else { 500 }));
+    methane_and(&others.collect::<Vec<_>>())
+}
+
+/// A gas: a title, the pair of temperatures in °C, the entries, and the number that refuses its record, 0 where it is accepted.
+pub struct Gas {
+    pub title: String,
+    pub pair: (u8, u8),
+    pub entries: Vec<(u8, u32)>,
+    pub number: u8,
+}
+
+impl Gas {
+    fn new(title: &str, pair: (u8, u8), entries: Vec<(u8, u32)>, number: u8) -> Self {
+        let title = title.to_string();
+        Self {
+            title,
+            pair,
+            entries,
+            number,
+        }
+    }
+
+    pub fn record(&self) -> Vec<u8> {
+        record(self.pair.0, self.pair.1, &self.entries)
+    }
+}
+
+/// The cases K1 to K8.
+pub fn of_paper() -> Vec<Gas> {
+    let gas = |title, number, entries| Gas::new(title, (15, 15), entries, number);
+    let methane = |title, number, fraction| gas(title, number, vec![(1, fraction)]);
+    let and = |title, number, others: &[_]| gas(title, number, methane_and(others));
+    let inert = |ethane| [(2, ethane), (52, 300_000), (54, 150_000)];
+    vec![
+        gas("K1", 0, K1.to_vec()),
+        methane("K2", 0, 1_000_000),
+        methane("K3, 999,900", 0, 999_900),
+        methane("K3, 1,000,100", 0, 1_000_100),
+        methane("K3, 999,899", 9, 999_899),
+        methane("K3, 1,000,101", 9, 1_000_101),
+        and("K4, 300,000", 0, &[(52, 300_000)]),
+        and("K4, 300,001", 11, &[(52, 300_001)]),
+        and("K5, methane 500,000", 0, &inert(50_000)),
+        and("K5, methane 499,999", 10, &inert(50_001)),
+        and("K6, water 200", 0, &[(42, 200)]),
+        and("K6, water 201", 12, &[(42, 201)]),
+        and("K7", 0, &[(55, 50_000)]),
+        Gas::new("K8, 25/15", (25, 15), methane_and(&[]), 4),
+        and("K8, line 1 twice", 7, &[(1, 500_000)]),
+    ]
+}
+
+/// The gases of crates/properties/specs/Cases.antt, each with its name there.
+pub fn further() -> Vec<(&'static str, Gas)> {
+    let hydrogen = methane_and(&[(41, 50_000)]);
+    let heavy: Vec<_> = (8..=17).map(|line| (line, 50_000)).collect();
+    let at_half = methane_and(&[(4, 14_351), (16, 41_306)]);
+    let below_half = methane_and(&[(16, 9_403)]);
+    [
+        ("annex D", "annexD", (0, 0), K1.to_vec()),
+        ("annex D", "annexD", (15, 0), K1.to_vec()),
+        ("annex D", "annexD", (25, 0), K1.to_vec()),
+        ("annex D", "annexD", (20, 20), K1.to_vec()),
+        ("annex D", "annexD", (25, 20), K1.to_vec()),
+        ("hydrogen", "hydrogen", (15, 15), hydrogen.clone()),
+        ("hydrogen", "hydrogen", (25, 0), hydrogen),
+        ("heavy", "heavy", (0, 0), methane_and(&heavy)),
+        ("at a half", "atHalf", (25, 0), at_half),
+        ("below a half", "belowHalf", (15, 15), below_half),
+        ("every line", "everyLine", (25, 20), every_line()),
+    ]
+    .into_iter()
+    .map(|(title, name, pair, entries)| {
+        let title = format!("{title} {}/{}", pair.0, pair.1);
+        (name, Gas::new(&title, pair, entries, 0))
+    })
+    .collect()
+}
+
+/// Every record with its title and the number that refuses it: the gases, and a record for each number that no case has.
+pub fn records() -> Vec<(String, Vec<u8>, u8)> {
+    let changed = |at: usize, byte| {
+        let mut bytes = K2;
+        bytes[at] = byte;
+        bytes.to_vec()
+    };
+    let damaged = [
+        ("7 bytes", record(15, 15, &[])[..7].to_vec(), 1),
+        ("mark GCS", changed(2, b'S'), 2),
+        ("version 2", changed(3, 2), 3),
+        ("no entry", record(15, 15, &[]), 5),
+        ("a byte short", K2[..12].to_vec(), 6),
+        ("fraction 0", record(15, 15, &[(1, 0)]), 8),
+    ];
+    let gases = further().into_iter().map(|(_, gas)| gas).chain(of_paper());
+    gases
+        .map(|gas| (gas.title.clone(), gas.record(), gas.number))
+        .chain(damaged.map(|(title, bytes, number)| (title.to_string(), bytes, number)))
+        .collect()
+}
+
+/// What crates/try_records reads and writes again: K2, also at 25/20; the refused records of K3 to K8; a fraction of 0; and bytes that
+/// end early or late.
+pub fn read_again() -> Vec<Vec<u8>> {
+    let many = |count| [&K2[..7], &[count], &[1; 1275]].concat();
+    let refused = of_paper().into_iter().filter(|gas| gas.number > 0);
+    let mut read = vec![K2.to_vec(), record(25, 20, &methane_and(&[]))];
+    read.extend(refused.map(|gas| gas.record()));
+    read.push(record(15, 15, &[(1, 1_000_000), (2, 0)]));
+    read.extend([0, 7, 8].map(|length| K2[..length].to_vec()));
+    read.push([&K2[..], &[0]].concat());
+    read.extend([many(55), many(255)]);
+    read
 }

@@ -1,6 +1,6 @@
 //! The meter of sixteen streams.
 
-use super::properties::{properties_of, Six};
+use super::properties::{properties_of, six};
 
 const STREAMS: usize = 16;
 const GREATEST_VOLUME: u64 = 10_000_000;
@@ -9,31 +9,12 @@ const GREATEST_TOTAL: u64 = 999_999_999_999;
 /// mJ in a MJ.
 const MEGAJOULE: u64 = 1_000_000_000;
 
-/// The pair and the properties of a stream's last accepted analysis, none of
-/// which passes 10^9.
+/// The pair and the properties of a stream's last accepted analysis, Z to W,
+/// none of which passes 10^9.
 #[derive(Debug, Clone, Copy)]
 struct InForce {
     pair: (u8, u8),
-    z: u32,
-    hs: u32,
-    hi: u32,
-    rho: u32,
-    d: u32,
-    w: u32,
-}
-
-impl InForce {
-    fn new(pair: (u8, u8), six: Six) -> Self {
-        Self {
-            pair,
-            z: six.z as u32,
-            hs: six.hs as u32,
-            hi: six.hi as u32,
-            rho: six.rho as u32,
-            d: six.d as u32,
-            w: six.w as u32,
-        }
-    }
+    six: [u32; 6],
 }
 
 #[derive(Debug, Clone, Copy)]
@@ -75,13 +56,13 @@ impl Meter {
     /// Puts a record's properties in force on a stream.
     pub fn analysis(&mut self, stream: usize, record: &[u8]) -> Result<(), u8> {
         let stream = self.streams.get_mut(stream).ok_or(13)?;
-        let properties = properties_of(record)?;
+        let six = six(&properties_of(record)?).map(|property| property as u32);
         // An accepted record has its pair at bytes 5 and 6.
         let pair = (record[5], record[6]);
         if stream.in_force.is_some_and(|earlier| earlier.pair != pair) {
             return Err(14);
         }
-        stream.in_force = Some(InForce::new(pair, properties));
+        stream.in_force = Some(InForce { pair, six });
         Ok(())
     }
 
@@ -96,7 +77,7 @@ impl Meter {
         if total > GREATEST_TOTAL {
             return Err(17);
         }
-        let energy = stream.rest + volume * u64::from(in_force.hs);
+        let energy = stream.rest + volume * u64::from(in_force.six[1]);
         stream.volume = total;
         stream.energy += energy / MEGAJOULE;
         stream.rest = energy % MEGAJOULE;

@@ -1,15 +1,19 @@
 //! Gas properties and stream energy in plain Rust, written from the paper
-//! alone. Refusals are the paper's numbers.
+//! alone. Refusals are the paper's numbers; properties and what is read have
+//! the library's types.
 
 // Each test and benchmark that includes this module uses a part of it.
 #![allow(dead_code, unused_imports)]
 
 pub mod conditions;
+pub mod fraction;
 pub mod meter;
 pub mod properties;
 pub mod record;
 pub mod table;
+pub mod tally;
 
 pub use meter::Meter;
-pub use properties::{properties_of, Six};
-pub use record::{read, write, Composition};
+pub use properties::{properties_of, six};
+pub use record::{read, write};
+pub use tally::Tally;

@@ -13,28 +13,36 @@
 //! the root is above 5 × 10^8 and W below 8.2 × 10^8.
 
 use super::conditions::Conditions;
+use super::fraction::Fraction;
 use super::record::check;
 use super::table::{MASS, TABLE};
+use loonstool::Properties;
 
 const GIGA: u64 = 1_000_000_000;
 
-/// The six properties: Z in 10^-9, Hs, Hi and W in J/m³, rho in 10^-8 kg/m³, d
-/// in 10^-8.
-#[derive(Debug, Clone, Copy, PartialEq, Eq)]
-pub struct Six {
-    pub z: u64,
-    pub hs: u64,
-    pub hi: u64,
-    pub rho: u64,
-    pub d: u64,
-    pub w: u64,
+/// The properties of a record, refused by 1 to 12.
+pub fn properties_of(record: &[u8]) -> Result<Properties, u8> {
+    let checked = check(record)?;
+    let conditions = &checked.conditions;
+    Ok(Sums::over(checked.entries(), conditions).properties(conditions))
 }
 
-/// The properties of a record, refused by 1 to 12.
-pub fn properties_of(record: &[u8]) -> Result<Six, u8> {
+/// Z, Hs, Hi, rho, d and W.
+pub fn six(p: &Properties) -> [u64; 6] {
+    [p.z, p.hs, p.hi, p.rho, p.d, p.w]
+}
+
+/// The unrounded Hs of a record in J/m³, with Z = 1 − (S / 10^10)².
+pub fn unrounded_hs(record: &[u8]) -> Result<Fraction, u8> {
+    const ONE: u128 = 100_000_000_000_000_000_000;
     let checked = check(record)?;
-    let conditions = checked.conditions();
-    Ok(Sums::over(checked.entries(), conditions).properties(conditions))
+    let sums = Sums::over(checked.entries(), &checked.conditions);
+    let z = ONE - u128::from(sums.factor.unsigned_abs()).pow(2);
+    let d = u128::from(checked.conditions.d);
+    Ok(Fraction::new(
+        &[sums.superior.into(), 1_013_250, ONE],
+        &[d, z],
+    ))
 }
 
 /// The sums over all lines, without rounding.
@@ -68,7 +76,7 @@ impl Sums {
         }
     }
 
-    fn properties(&self, conditions: &Conditions) -> Six {
+    fn properties(&self, conditions: &Conditions) -> Properties {
         let z = compression(self.factor);
         let real = |ideal: u64| near(ideal * GIGA, z);
         let hs = real(near(self.superior * 1_013_250, conditions.d));
@@ -77,7 +85,7 @@ impl Sums {
         let d = real(near(self.mass * conditions.air, 289_626_000));
         let root = (d * 10_000_000_000).isqrt();
         let w = near(hs * GIGA, root);
-        Six {
+        Properties {
             z,
             hs,
             hi,

@@ -2,6 +2,7 @@
 
 use super::conditions::Conditions;
 use super::table::LINES;
+use loonstool::Analysis;
 
 const HEADER: usize = 8;
 const ENTRY: usize = 5;
@@ -14,34 +15,15 @@ const WATER: u8 = 42;
 const NITROGEN: u8 = 52;
 const CARBON_DIOXIDE: u8 = 54;
 
-/// A read record: the pair in °C, the line numbers and fractions in ppm of its
-/// `count` entries, 0 past them.
-#[derive(Debug, Clone, Copy, PartialEq, Eq)]
-pub struct Composition {
-    pub combustion: u8,
-    pub metering: u8,
-    pub count: usize,
-    pub lines: [u8; LINES],
-    pub fractions: [u32; LINES],
-}
-
 /// A record that met every condition.
 pub struct Checked<'a> {
     combustion: u8,
     metering: u8,
-    conditions: Conditions,
+    pub conditions: Conditions,
     entries: &'a [[u8; ENTRY]],
 }
 
 impl Checked<'_> {
-    pub fn pair(&self) -> (u8, u8) {
-        (self.combustion, self.metering)
-    }
-
-    pub fn conditions(&self) -> &Conditions {
-        &self.conditions
-    }
-
     /// Line number and fraction of each entry.
     pub fn entries(&self) -> impl ExactSizeIterator<Item = (u8, u32)> + '_ {
         self.entries.iter().map(entry)
@@ -75,9 +57,9 @@ pub fn check(record: &[u8]) -> Result<Checked<'_>, u8> {
 }
 
 /// Reads a record.
-pub fn read(record: &[u8]) -> Result<Composition, u8> {
+pub fn read(record: &[u8]) -> Result<Analysis, u8> {
     let checked = check(record)?;
-    let mut composition = Composition {
+    let mut analysis = Analysis {
         combustion: checked.combustion,
         metering: checked.metering,
         count: checked.entries.len(),
@@ -85,10 +67,10 @@ pub fn read(record: &[u8]) -> Result<Composition, u8> {
         fractions: [0; LINES],
     };
     for (i, (line, fraction)) in checked.entries().enumerate() {
-        composition.lines[i] = line;
-        composition.fractions[i] = fraction;
+        analysis.lines[i] = line;
+        analysis.fractions[i] = fraction;
     }
-    Ok(composition)
+    Ok(analysis)
 }
 
 /// Writes a record at the start of `out` and gives its length.

@@ -2,6 +2,9 @@
 //! and one past each limit, damaged ones, and ones that break several
 //! conditions at once.
 
+// Each test that includes this module uses a part of it.
+#![allow(dead_code, unused_imports)]
+
 mod limits;
 mod random;
 
