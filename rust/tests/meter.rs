@@ -1,5 +1,5 @@
-//! The meter: K9 on the plain version, and random lists of calls, to which the plain meter, the tally and, where it is built, the proved
-//! program `try_meter` answer alike.
+//! The meter: K9 on the plain version, and random lists of calls, to which the plain meter, the tally and the proved program `try_meter`
+//! answer alike. `rt check try_meter` builds that program.
 
 mod calls;
 mod cases;
@@ -13,7 +13,9 @@ use std::io::Write;
 use std::path::Path;
 use std::process::{Command, Stdio};
 
-/// The proved program, relative to the package folder, and the bytes of calls that it reads at most.
+/// The proved program and its source, which reduced clones leave out, relative to the package folder, and the bytes of calls that it
+/// reads at most.
+const SOURCE: &str = "../crates/try_meter";
 const PROVED: &str = "../target/bin/try_meter";
 const INPUT: usize = 2_048;
 
@@ -37,7 +39,7 @@ fn random_lists() {
     for number in 0..LISTS {
         let list = random_list(&mut random);
         let text = calls::printed(&list);
-        if Path::new(PROVED).is_file() {
+        if Path::new(SOURCE).is_dir() {
             assert_eq!(proved(&calls::input(&list)), text, "list {number}");
         }
         all += &text;
@@ -51,7 +53,7 @@ fn random_lists() {
 fn proved(input: &[u8]) -> String {
     let mut command = Command::new(PROVED);
     command.stdin(Stdio::piped()).stdout(Stdio::piped());
-    let mut program = command.spawn().expect(PROVED);
+    let mut program = command.spawn().expect("`rt check try_meter` builds it");
     let mut pipe = program.stdin.take().expect("its input is a pipe");
     pipe.write_all(input).expect("it reads its input");
     drop(pipe);
