@@ -1,15 +1,16 @@
 -- The loop that sums columns: what is summed and the sum of what is left are the whole, and everything fits.
-use mathlib.Core.Path.{_≡_, sym, _∙_}
+use mathlib.Core.Path.{_≡_, refl, sym, _∙_}
 use mathlib.Core.List.{List}
 use Prim.Native.Nat.{ℕ, _+_, _*_, _^_, _≤_, _<_}
 use native.Mathlib.Nat.{mul-le-mul-left}
 use native.Mathlib.Omega.{arith}
-use lib.IntN.{ℤ, pos, natAbs, _+ℤ_, _*ℤ_, +ℤ-idl}
+use lib.Dec.{T}
+use lib.IntN.{ℤ, pos, negsuc, natAbs, _+ℤ_, _*ℤ_, +ℤ-idl}
 use lib.ListN.{length, getD, drop}
-use lib.Signed.{pos-natAbs}
-use Rattle.components.specs.Table.{entryOf, molarMass, summation, superior, inferior, Unsigned}
+use lib.Signed.{nonNeg}
+use Rattle.components.specs.Table.{entryOf, molarMass, summation, superior, inferior}
 use Rattle.components.specs.Composition.{Composition, total, sumOf}
-use Rattle.components.proofs.Entries.{largest, entry-below, not-negative}
+use Rattle.components.proofs.Entries.{largest, entry-below}
 use Rattle.components.proofs.SignedSums.{natAbs-add, natAbs-mul}
 use Rattle.components.proofs.SumLaws.{total-step, sum-turn, sum-end}
 
@@ -79,6 +80,7 @@ module _ {t j : ℕ} {ls xs : List ℕ} {hs hi m : ℕ} {s : ℤ} {k : ℕ} (f :
 pub fits-more : (sum x l c : ℕ) → sum < 2 ^ 62 → x < 2 ^ 32 → sum + x * natAbs (entryOf l c) < 2 ^ 63
 fits-more sum x l c h w = omega (arith, mul-le-mul-left x (entry-below l c))
 
--- in a column with no number below 0
-pub unsigned-more : (sum x l c : ℕ) → Unsigned c → pos sum +ℤ pos x *ℤ entryOf l c ≡ pos (sum + x * natAbs (entryOf l c))
-unsigned-more sum x l c u = rw (← pos-natAbs (entryOf l c) (not-negative l c u))
+-- of a number that is not below 0
+pub unsigned-more : (sum x : ℕ) (n : ℤ) → T (nonNeg n) → pos sum +ℤ pos x *ℤ n ≡ pos (sum + x * natAbs n)
+unsigned-more sum x (pos n) t = refl
+unsigned-more sum x (negsuc n) t = absurd t

@@ -74,9 +74,12 @@ componentTable =
     line 640650 (pos 1549) (pos 1449) (pos 1414) 0 0 0 0 0 0 0 0 ∷  -- 55 sulphur dioxide
     []
 
--- the number of a line 1 to 55 in a column 0 to 11 (it is 0 past the table, and line 0 counts as line 1)
+-- the row of a line 1 to 55, and its number in a column 0 to 11 (it is 0 past the table, and line 0 counts as line 1)
+abbrev pub rowOf : ℕ → List ℤ
+rowOf l = getD componentTable (l - 1) []
+
 abbrev pub entryOf : ℕ → ℕ → ℤ
-entryOf l c = getD (getD componentTable (l - 1) []) c (pos 0)
+entryOf l c = getD (rowOf l) c (pos 0)
 
 -- the columns: m; s at the k-th of 0, 15 and 20 °C; h superior and h inferior at the t-th of 25, 20, 15 and 0 °C, each counted from 0
 abbrev pub molarMass : ℕ

@@ -1,8 +1,7 @@
 // The library for firmware in C and Rust: the properties of a record, and records read and written. include/loonstool.h declares its
-// functions for C, rust/ wraps them for Rust. Each but `loonstool_make_table` gives 0 where the call is accepted, or document 01's number;
-// a refusal leaves what the caller lent as it was.
+// functions for C, rust/ wraps them for Rust. Each gives 0 where the call is accepted, or document 01's number; a refusal leaves what the
+// caller lent as it was.
 ghost use mathlib.Core.Path.{_≡_};
-ghost use Rattle.components.specs.Table.{componentTable};
 ghost use Rattle.records.specs.Order.{mapped};
 ghost use Rattle.records.specs.Format.{contents};
 ghost use Rattle.records.specs.Calls.{readingOf, writingOf};
@@ -39,27 +38,6 @@ fn give(answer: Answer, properties: &mut [u64; 6]) -> u8
             0
         }
     }
-}
-
-// The component table, for `loonstool_properties_with`.
-#[no_mangle]
-pub extern "C" fn loonstool_make_table(table: &mut [[i32; 12]; 55])
-    ensures { λ _. ⌜ now (table .exit) ≡ componentTable ⌝ }
-{
-    *table = components::component_table();
-}
-
-// Z, Hs, Hi, rho, d and W of a record, by a component table that the caller has had made.
-#[no_mangle]
-pub extern "C" fn loonstool_properties_with(
-    table: &[[i32; 12]; 55],
-    bytes: &[u8],
-    properties: &mut [u64; 6],
-) -> u8
-    requires { ⌜ now table ≡ componentTable ⌝ }
-    ensures { λ r. ⌜ Returns (mapped inOrder (propertiesOf (now (bytes .entry)))) (now (properties .entry)) r (now (properties .exit)) ⌝ }
-{
-    give(properties::properties_with(table, bytes), properties)
 }
 
 // Z, Hs, Hi, rho, d and W of a record.

@@ -1,9 +1,7 @@
 // Prints the component table, a line of the table a line: the line's number, then its twelve columns in the order and the
 // units of crates/components/src/table.rt.
-ghost use mathlib.Core.Path.{_≡_};
 ghost use Prim.Native.Nat.{_^_, _≤_, _<_};
 ghost use lib.IntN.{natAbs};
-ghost use Rattle.components.specs.Table.{componentTable};
 use libc::STDOUT_FILENO;
 
 fn print_number(n: i64)
@@ -22,20 +20,18 @@ fn end_line() {
     io::write_all(STDOUT_FILENO, b"\n");
 }
 
-fn print_line(table: &[[i32; 12]; 55], line: u8)
-    requires { ⌜ now table ≡ componentTable ⌝ }
+fn print_line(line: u8)
     requires { ⌜ (1 ≤ line) × (line ≤ 55) ⌝ }
 {
     io::print_decimal(STDOUT_FILENO, line as u64);
     for column in 0..12 {
-        print_number(components::entry(table, line, column) as i64);
+        print_number(components::entry(line, column) as i64);
     }
     end_line();
 }
 
 fn main() {
-    let table = components::component_table();
     for line in 1..=55 {
-        print_line(&table, line);
+        print_line(line);
     }
 }

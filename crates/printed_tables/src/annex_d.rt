@@ -1,15 +1,13 @@
 // Annex D: table D.1, and the text from D.1 to D.4.3.
 ghost use mathlib.Core.Path.{_≡_};
 ghost use Prim.Native.Nat.{_<_};
-ghost use Rattle.components.specs.Table.{componentTable};
 ghost use Rattle.properties.specs.Answers.{numbers};
-ghost use Rattle.printed_tables.specs.Gas.{sumsOf};
+ghost use Rattle.printed_tables.specs.Gas.{totalsOf};
 ghost use Rattle.printed_tables.specs.Text.{textValues, textFigure};
 use super::gas;
 use super::parts;
 use super::parts::Part;
 use super::table_d1;
-use super::tables::Table;
 use super::text;
 use properties::Answer;
 use properties::Properties;
@@ -54,15 +52,14 @@ pub fn print_name(k: usize) -> bool {
 
 // The values whose figures are printed, from the sums and the properties of the gas: h_m is the ideal calorific value per kilogram, J/kg,
 // and the ideal relative density has 1 for the compression factor of air.
-fn values(sums: gas::Sums, p: Properties) -> Values
-    requires { ⌜ sums ≡ sumsOf ⌝ }
+fn values(sums: gas::Totals, p: Properties) -> Values
+    requires { ⌜ sums ≡ totalsOf ⌝ }
     ensures { λ r. ⌜ r ≡ textValues (numbers p) ⌝ }
 {
-    let divisor = steps::divisor(15);
     let h_m = rounding::nearest(10000000 * sums.h, sums.m);
-    let h_0 = steps::ideal_calorific_value(sums.h, divisor);
+    let h_0 = steps::ideal_calorific_value(sums.h, 15);
     let d_0 = steps::ideal_relative_density(sums.m, 100000);
-    let rho_0 = steps::ideal_density(sums.m, divisor);
+    let rho_0 = steps::ideal_density(sums.m, 15);
     let w_0 = steps::wobbe_index(CalorificValue::new(h_0), RelativeDensity::new(d_0)).value();
     let z = p.z.value();
     let h = p.hs.value();
@@ -87,24 +84,20 @@ pub fn figure(values: &Values, k: usize) -> u64
 }
 
 // All figures, with the properties of the gas's record.
-fn print_counts(table: &Table, p: Properties)
-    requires { ⌜ now table ≡ componentTable ⌝ }
-{
-    let values = values(gas::sums_of(table), p);
+fn print_counts(p: Properties) {
+    let values = values(gas::totals_of(), p);
     let none = parts::Counts::new();
-    let rows = parts::count(none, Part::TableD1, &table_d1::FIGURES, table, &values);
-    let counts = parts::count(rows, Part::Text, &text::FIGURES, table, &values);
+    let rows = parts::count(none, Part::TableD1, &table_d1::FIGURES, &values);
+    let counts = parts::count(rows, Part::Text, &text::FIGURES, &values);
     print_text(b"annex D: ");
     counts.print();
 }
 
-pub fn print_comparison(table: &Table)
-    requires { ⌜ now table ≡ componentTable ⌝ }
-{
+pub fn print_comparison() {
     let mut record = [0u8; 48];
     records::write(15, 15, &gas::LINES, &gas::FRACTIONS, &mut record);
-    match properties::properties_with(table, &record) {
-        Answer::Accepted(p) => print_counts(table, p),
+    match properties::properties_of(&record) {
+        Answer::Accepted(p) => print_counts(p),
         Answer::Refused(_) => {
             print_text(b"annex D: the record is refused\n");
         }

@@ -1,13 +1,11 @@
 // The gas of annex D at 15/15: table D.1, its sums, and formulas (7) and (9).
 ghost use mathlib.Core.Path.{_≡_};
 ghost use Prim.Native.Nat.{_<_};
-ghost use Rattle.components.specs.Table.{componentTable};
-ghost use Rattle.properties.specs.Chain.{M};
+ghost use Rattle.properties.specs.Chain.{HmSuperior, M, S};
 ghost use Rattle.printed_tables.specs.Figures.{numberOf};
-ghost use Rattle.printed_tables.specs.Gas.{gas, lineAt, fractionAt, massPart, volumePart, sumsOf};
+ghost use Rattle.printed_tables.specs.Gas.{gas, lineAt, fractionAt, massPart, volumePart, totalsOf};
 ghost use Rattle.printed_tables.specs.TableD1.{rowWeight, rowScale, rowFigure};
 use super::tables;
-use super::tables::Table;
 use properties::steps;
 
 // The lines, and their mole fractions in ppm.
@@ -23,12 +21,11 @@ const SCALES: [u64; 6] = [1000, 100, 10000, 10000, 100, 100000];
 const UNITS: [u64; 6] = [10000, 1000, 10000, 10000000000, 1000000000, 10000000000];
 
 // The i-th line's number in a column of the component table, without its sign.
-fn number(table: &Table, i: usize, column: usize) -> u64
-    requires { ⌜ now table ≡ componentTable ⌝ }
+fn number(i: usize, column: usize) -> u64
     requires { ⌜ (i < 8) × (column < 12) ⌝ }
     ensures { λ r. ⌜ r ≡ numberOf (lineAt i) column ⌝ }
 {
-    tables::number(table, LINES[i] as usize, column)
+    tables::number(LINES[i] as usize, column)
 }
 
 fn fraction(i: usize) -> u64
@@ -60,17 +57,16 @@ fn weight(k: usize) -> u64
 }
 
 // The k-th figure as calculated.
-pub fn figure(table: &Table, k: usize) -> u64
-    requires { ⌜ now table ≡ componentTable ⌝ }
+pub fn figure(k: usize) -> u64
     requires { ⌜ k < 48 ⌝ }
     ensures { λ r. ⌜ r ≡ rowFigure k ⌝ }
 {
-    let n = number(table, k / 6, COLUMNS[k % 6]);
+    let n = number(k / 6, COLUMNS[k % 6]);
     rounding::nearest(weight(k) * n * scale(k), UNITS[k % 6])
 }
 
 // The sums of x H, x M, x s and x, of formula (7), unit 10^-12 MJ/kg, and of formula (9), unit 10^-6 J/m³.
-pub struct Sums {
+pub struct Totals {
     pub h: u64,
     pub m: u64,
     pub s: u64,
@@ -80,32 +76,42 @@ pub struct Sums {
 }
 
 // A line's part of formula (7): its mass fraction, unit 10^-7, times its calorific value, unit 10^-5 MJ/kg.
-fn mass_part(table: &Table, i: usize, total: u64) -> u64
-    requires { ⌜ now table ≡ componentTable ⌝ }
+fn mass_part(i: usize, total: u64) -> u64
     requires { ⌜ (i < 8) × (total ≡ M gas) ⌝ }
     ensures { λ r. ⌜ r ≡ massPart i ⌝ }
 {
-    let m = number(table, i, tables::M);
-    let h = number(table, i, tables::H_15);
+    let m = number(i, tables::M);
+    let h = number(i, tables::H_15);
     let fraction = rounding::nearest(fraction(i) * m * 10000000, total);
     fraction * rounding::nearest(1000000 * h, m)
 }
 
 // A line's part of formula (9): its fraction times its calorific value.
-fn volume_part(table: &Table, i: usize) -> u64
-    requires { ⌜ now table ≡ componentTable ⌝ }
+fn volume_part(i: usize) -> u64
     requires { ⌜ i < 8 ⌝ }
     ensures { λ r. ⌜ r ≡ volumePart i ⌝ }
 {
-    let h = number(table, i, tables::H_15);
-    fraction(i) * steps::ideal_calorific_value(1000000 * h, steps::divisor(15))
+    let h = number(i, tables::H_15);
+    fraction(i) * steps::ideal_calorific_value(1000000 * h, 15)
 }
 
-pub fn sums_of(table: &Table) -> Sums
-    requires { ⌜ now table ≡ componentTable ⌝ }
-    ensures { λ r. ⌜ r ≡ sumsOf ⌝ }
+// The sums of the gas over the component table, h and s at 15 °C.
+fn sums() -> components::Sums
+    ensures superior { λ r. ⌜ r .superior ≡ HmSuperior gas ⌝ }
+    ensures mass { λ r. ⌜ r .mass ≡ M gas ⌝ }
+    ensures summation { λ r. ⌜ r .summation ≡ S gas ⌝ }
 {
-    let sums = components::sums_of(table, &LINES, &FRACTIONS, 2, 1);
+    let mut sums = components::no_sums();
+    for i in 0..8 {
+        sums = components::add_to_sums(sums, LINES[i], FRACTIONS[i], 2, 1);
+    }
+    sums
+}
+
+pub fn totals_of() -> Totals
+    ensures { λ r. ⌜ r ≡ totalsOf ⌝ }
+{
+    let sums = sums();
     let m = sums.mass;
     let s = tables::size(sums.summation);
     let mut x = 0;
@@ -114,11 +120,11 @@ pub fn sums_of(table: &Table) -> Sums
     let mut i = 0;
     while i < 8 {
         x += fraction(i);
-        mass += mass_part(table, i, m);
-        volume += volume_part(table, i);
+        mass += mass_part(i, m);
+        volume += volume_part(i);
         i += 1;
     }
-    Sums {
+    Totals {
         h: sums.superior,
         m,
         s,

@@ -12,8 +12,7 @@ mod tables;
 mod text;
 
 fn main() {
-    let table = components::component_table();
-    tables::print_comparison(5, parts::Part::Table5, &table_5::FIGURES, &table);
-    tables::print_comparison(4, parts::Part::Table4, &table_4::FIGURES, &table);
-    annex_d::print_comparison(&table);
+    tables::print_comparison(5, parts::Part::Table5, &table_5::FIGURES);
+    tables::print_comparison(4, parts::Part::Table4, &table_4::FIGURES);
+    annex_d::print_comparison();
 }

@@ -2,7 +2,6 @@
 ghost use mathlib.Core.Path.{_≡_};
 ghost use Prim.Native.Nat.{_<_};
 ghost use lib.ListN.{length};
-ghost use Rattle.components.specs.Table.{componentTable};
 ghost use Rattle.printed_tables.specs.Counts.{distance, none, counted, countsOf};
 ghost use Rattle.printed_tables.specs.Parts.{figuresIn, figureAt};
 use super::annex_d;
@@ -10,7 +9,6 @@ use super::annex_d::Values;
 use super::gas;
 use super::places;
 use super::tables;
-use super::tables::Table;
 use report::print_number;
 use report::print_text;
 
@@ -73,22 +71,20 @@ pub enum Part {
 }
 
 // The k-th figure as calculated, with the values of the text.
-fn calculated(part: Part, table: &Table, values: &Values, k: usize) -> u64
-    requires { ⌜ now table ≡ componentTable ⌝ }
+fn calculated(part: Part, values: &Values, k: usize) -> u64
     requires { ⌜ k < figuresIn part ⌝ }
     ensures { λ r. ⌜ r ≡ figureAt part (now (values .entry)) k ⌝ }
 {
     match part {
-        Part::Table4 => tables::per_kilogram(table, k / 8 + 1, k % 8),
-        Part::Table5 => tables::per_cubic_metre(table, k / 12 + 1, k % 12),
-        Part::TableD1 => gas::figure(table, k),
+        Part::Table4 => tables::per_kilogram(k / 8 + 1, k % 8),
+        Part::Table5 => tables::per_cubic_metre(k / 12 + 1, k % 12),
+        Part::TableD1 => gas::figure(k),
         Part::Text => annex_d::figure(values, k),
     }
 }
 
 // The counts with the printed figures of a part more. Those that differ are printed.
-pub fn count(c: Counts, part: Part, figures: &[u32], table: &Table, values: &Values) -> Counts
-    requires { ⌜ now table ≡ componentTable ⌝ }
+pub fn count(c: Counts, part: Part, figures: &[u32], values: &Values) -> Counts
     requires { ⌜ length (now figures) ≡ figuresIn part ⌝ }
     ensures { λ r. ⌜ r ≡ countsOf c (now (figures .entry)) (figureAt part (now (values .entry))) (length (now (figures .entry))) ⌝ }
 {
@@ -96,7 +92,7 @@ pub fn count(c: Counts, part: Part, figures: &[u32], table: &Table, values: &Val
     let mut k = 0;
     while k < figures.len() {
         let printed = figures[k] as u64;
-        let calculated = calculated(part, table, values, k);
+        let calculated = calculated(part, values, k);
         places::report(part, k, printed, calculated);
         counts = counts.with(printed, calculated);
         k += 1;

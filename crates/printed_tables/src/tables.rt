@@ -3,15 +3,12 @@ ghost use mathlib.Core.Path.{_≡_};
 ghost use Prim.Native.Nat.{_≤_, _<_};
 ghost use lib.IntN.{natAbs};
 ghost use lib.ListN.{length};
-ghost use Rattle.components.specs.Table.{componentTable};
 ghost use Rattle.printed_tables.specs.Figures.{numberOf, scaleOf, perKilogram, perCubicMetre};
 ghost use Rattle.printed_tables.specs.Parts.{figuresIn};
 use super::parts;
 use super::places;
 use properties::steps;
 use report::print_text;
-
-pub type Table = [[i32; 12]; 55];
 
 // The columns of the component table: m, and superior h at 25 and 15 °C.
 pub const M: usize = 0;
@@ -31,12 +28,11 @@ pub fn size(n: i64) -> u64
 }
 
 // A number of the component table, without its sign.
-pub fn number(table: &Table, line: usize, column: usize) -> u64
-    requires { ⌜ now table ≡ componentTable ⌝ }
+pub fn number(line: usize, column: usize) -> u64
     requires { ⌜ (1 ≤ line) × (line ≤ 55) × (column < 12) ⌝ }
     ensures { λ r. ⌜ r ≡ numberOf line column ⌝ }
 {
-    size(components::entry(table, line as u8, column) as i64)
+    size(components::entry(line as u8, column) as i64)
 }
 
 // The conditions of table 5, 15/15, 0/0, 15/0, 25/0, 20/20 and 25/20: the column of superior h, and the metering temperature, °C.
@@ -55,32 +51,28 @@ pub fn scale(number: u8, line: usize) -> u64
 }
 
 // The figures of a line in a column.
-pub fn per_kilogram(table: &Table, line: usize, column: usize) -> u64
-    requires { ⌜ now table ≡ componentTable ⌝ }
+pub fn per_kilogram(line: usize, column: usize) -> u64
     requires { ⌜ (1 ≤ line) × (line ≤ 55) × (column < 8) ⌝ }
     ensures { λ r. ⌜ r ≡ perKilogram line column ⌝ }
 {
-    let h = number(table, line, H_25 + column);
-    let m = number(table, line, M);
+    let h = number(line, H_25 + column);
+    let m = number(line, M);
     rounding::nearest(10 * h * scale(4, line), m)
 }
 
-pub fn per_cubic_metre(table: &Table, line: usize, column: usize) -> u64
-    requires { ⌜ now table ≡ componentTable ⌝ }
+pub fn per_cubic_metre(line: usize, column: usize) -> u64
     requires { ⌜ (1 ≤ line) × (line ≤ 55) × (column < 12) ⌝ }
     ensures { λ r. ⌜ r ≡ perCubicMetre line column ⌝ }
 {
-    let h = number(table, line, SUPERIOR[column / 2] + column % 2);
-    let divisor = steps::divisor(METERING[column / 2]);
-    let value = steps::ideal_calorific_value(1000000 * h, divisor);
+    let h = number(line, SUPERIOR[column / 2] + column % 2);
+    let value = steps::ideal_calorific_value(1000000 * h, METERING[column / 2]);
     rounding::nearest(value * scale(5, line), 1000000)
 }
 
-pub fn print_comparison(number: u8, part: parts::Part, figures: &[u32], table: &Table)
-    requires { ⌜ now table ≡ componentTable ⌝ }
+pub fn print_comparison(number: u8, part: parts::Part, figures: &[u32])
     requires { ⌜ length (now figures) ≡ figuresIn part ⌝ }
 {
-    let counts = parts::count(parts::Counts::new(), part, figures, table, &[[0; 6]; 5]);
+    let counts = parts::count(parts::Counts::new(), part, figures, &[[0; 6]; 5]);
     places::print_table(number);
     print_text(b": ");
     counts.print();

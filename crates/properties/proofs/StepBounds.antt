@@ -11,7 +11,7 @@ use Rattle.rounding.specs.Root.{Root}
 use Rattle.rounding.specs.Fraction.{Within, _over_, half}
 use Rattle.rounding.proofs.NearLaws.{near-half, near-z-half, at-most, at-least}
 use Rattle.rounding.proofs.RootLaws.{root-is, root-greatest, below-of-squares}
-use Rattle.properties.specs.Chain.{forMetering, temperature, meteringPlace, combustionPlace, airFactor, tenth, idealCalorific, idealDensity, idealRelative, real, rootOf, wobbe}
+use Rattle.properties.specs.Chain.{forMetering, temperature, divisor, meteringPlace, combustionPlace, airFactor, tenth, idealCalorific, idealDensity, idealRelative, real, rootOf, wobbe}
 
 -- what holds of three numbers holds of the one chosen
 pub chosen : (P : ℕ → Type 0) {x y z : ℕ} → P x → P y → P z → (m : ℕ) → P (forMetering x y z m)
@@ -24,6 +24,9 @@ chosen P {x} {y} {z} hx hy hz m = go (eqb m 0) (eqb m 15)
 
 pub temperature-low : (m : ℕ) → 27315 ≤ temperature m
 temperature-low = chosen (λ (n : ℕ). 27315 ≤ n) (omega arith) (omega arith) (omega arith)
+
+pub divisor-low : (m : ℕ) → 831451 * 27315 ≤ divisor (temperature m)
+divisor-low m = omega (arith, temperature-low m)
 
 pub temperature-high : (m : ℕ) → temperature m ≤ 29315
 temperature-high = chosen (λ (n : ℕ). n ≤ 29315) (omega arith) (omega arith) (omega arith)

@@ -2,7 +2,6 @@
 // that reading it gives.
 ghost use mathlib.Core.Path.{_≡_};
 ghost use Rattle.records.specs.Order.{firstOf};
-ghost use Rattle.components.specs.Table.{componentTable};
 ghost use Rattle.records.specs.Format.{contentsIn};
 ghost use Rattle.records.specs.Conditions.{headOrder, recordOrder};
 ghost use Rattle.properties.specs.Chain.{sixOf, propertiesOf};
@@ -35,19 +34,17 @@ pub enum Answer {
 }
 
 // The properties of an accepted record.
-fn calculate(table: &[[i32; 12]; 55], bytes: &[u8]) -> Properties
-    requires { ⌜ now table ≡ componentTable ⌝ }
+fn calculate(bytes: &[u8]) -> Properties
     requires { ⌜ firstOf (recordOrder (now bytes)) ≡ 0 ⌝ }
     ensures { λ r. ⌜ numbers r ≡ sixOf (contentsIn (now (bytes .entry))) ⌝ }
 {
     let metering = bytes[6];
-    let sums = sums::sums_of(table, bytes);
-    let divisor = steps::divisor(metering);
+    let sums = sums::sums_of(bytes);
     let air = steps::air_factor(metering);
     let z = steps::compression_factor(sums.summation);
-    let hs = steps::calorific_value(sums.superior, divisor, z);
-    let hi = steps::calorific_value(sums.inferior, divisor, z);
-    let rho = steps::density(sums.mass, divisor, z);
+    let hs = steps::calorific_value(sums.superior, metering, z);
+    let hi = steps::calorific_value(sums.inferior, metering, z);
+    let rho = steps::density(sums.mass, metering, z);
     let d = steps::relative_density(sums.mass, air, z);
     let w = steps::wobbe_index(hs, d);
     Properties {
@@ -80,31 +77,5 @@ fn properties_of_entries(bytes: &[u8]) -> Answer
     if refusal != 0 {
         return Answer::Refused(refusal);
     }
-    let table = components::component_table();
-    Answer::Accepted(calculate(&table, bytes))
-}
-
-// The properties of a record by a component table that the caller has made, so that many records need it made once.
-pub fn properties_with(table: &[[i32; 12]; 55], bytes: &[u8]) -> Answer
-    requires { ⌜ now table ≡ componentTable ⌝ }
-    ensures { λ r. ⌜ meaning r ≡ propertiesOf (now (bytes .entry)) ⌝ }
-{
-    let head = records::head_refusal(bytes);
-    if head != 0 {
-        return Answer::Refused(head);
-    }
-    properties_with_entries(table, bytes)
-}
-
-// The same where none of 1 to 6 holds.
-fn properties_with_entries(table: &[[i32; 12]; 55], bytes: &[u8]) -> Answer
-    requires { ⌜ now table ≡ componentTable ⌝ }
-    requires { ⌜ firstOf (headOrder (now bytes)) ≡ 0 ⌝ }
-    ensures { λ r. ⌜ meaning r ≡ propertiesOf (now (bytes .entry)) ⌝ }
-{
-    let refusal = records::entries_refusal(bytes);
-    if refusal != 0 {
-        return Answer::Refused(refusal);
-    }
-    Answer::Accepted(calculate(table, bytes))
+    Answer::Accepted(calculate(bytes))
 }

@@ -2,6 +2,7 @@
 ghost use mathlib.Core.Path.{_≡_};
 ghost use Prim.Native.Nat.{_*_, _^_, _≤_, _<_};
 ghost use lib.IntN.{natAbs};
+ghost use Rattle.rounding.specs.Near.{near};
 ghost use Rattle.properties.specs.Chain.{forMetering, temperature, divisor, airFactor, tenth, compression, idealCalorific, real, idealDensity, idealRelative, rootOf, wobbe};
 use super::quantities::CalorificValue;
 use super::quantities::CompressionFactor;
@@ -22,11 +23,17 @@ pub fn for_metering(at_0: u64, at_15: u64, at_20: u64, metering: u8) -> u64
     at_20
 }
 
-// D, from the metering temperature in °C.
-pub fn divisor(metering: u8) -> u64
-    ensures { λ r. ⌜ r ≡ divisor (temperature metering) ⌝ }
+// The whole number nearest to n / D, from the metering temperature in °C. Where D is known, its division is a multiplication.
+fn nearest_over_d(n: u64, metering: u8) -> u64
+    ensures { λ r. ⌜ r ≡ near n (divisor (temperature metering)) ⌝ }
 {
-    831451 * for_metering(27315, 28815, 29315, metering)
+    if metering == 0 {
+        return rounding::nearest(n, 831451 * 27315);
+    }
+    if metering == 15 {
+        return rounding::nearest(n, 831451 * 28815);
+    }
+    rounding::nearest(n, 831451 * 29315)
 }
 
 // A, the compression factor of air, unit 10^-5, from the metering temperature in °C.
@@ -64,35 +71,35 @@ fn real(ideal: u64, z: CompressionFactor) -> u64
 }
 
 // 3. The ideal calorific value, J/m³.
-pub fn ideal_calorific_value(hm: u64, divisor: u64) -> u64
-    requires { ⌜ (hm ≤ 10000000000000) × (0 < divisor) ⌝ }
-    ensures { λ r. ⌜ r ≡ idealCalorific hm divisor ⌝ }
+pub fn ideal_calorific_value(hm: u64, metering: u8) -> u64
+    requires { ⌜ hm ≤ 10000000000000 ⌝ }
+    ensures { λ r. ⌜ r ≡ idealCalorific hm (divisor (temperature metering)) ⌝ }
 {
-    rounding::nearest(hm * 1013250, divisor)
+    nearest_over_d(hm * 1013250, metering)
 }
 
 // The calorific value.
-pub fn calorific_value(hm: u64, divisor: u64, z: CompressionFactor) -> CalorificValue
-    requires { ⌜ (hm ≤ 3900000000000) × (831451 * 27315 ≤ divisor) × (724000000 ≤ z .value) ⌝ }
-    ensures { λ r. ⌜ r .value ≡ real (idealCalorific hm divisor) (z .value) ⌝ }
+pub fn calorific_value(hm: u64, metering: u8, z: CompressionFactor) -> CalorificValue
+    requires { ⌜ (hm ≤ 3900000000000) × (724000000 ≤ z .value) ⌝ }
+    ensures { λ r. ⌜ r .value ≡ real (idealCalorific hm (divisor (temperature metering))) (z .value) ⌝ }
 {
-    CalorificValue::new(real(ideal_calorific_value(hm, divisor), z))
+    CalorificValue::new(real(ideal_calorific_value(hm, metering), z))
 }
 
 // 4. The ideal density, unit 10^-8 kg/m³.
-pub fn ideal_density(m: u64, divisor: u64) -> u64
-    requires { ⌜ (m ≤ 1500000000000) × (0 < divisor) ⌝ }
-    ensures { λ r. ⌜ r ≡ idealDensity m divisor ⌝ }
+pub fn ideal_density(m: u64, metering: u8) -> u64
+    requires { ⌜ m ≤ 1500000000000 ⌝ }
+    ensures { λ r. ⌜ r ≡ idealDensity m (divisor (temperature metering)) ⌝ }
 {
-    rounding::nearest(m * 10132500, divisor)
+    nearest_over_d(m * 10132500, metering)
 }
 
 // The density.
-pub fn density(m: u64, divisor: u64, z: CompressionFactor) -> Density
-    requires { ⌜ (m ≤ 800000000000) × (831451 * 27315 ≤ divisor) × (724000000 ≤ z .value) ⌝ }
-    ensures { λ r. ⌜ r .value ≡ real (idealDensity m divisor) (z .value) ⌝ }
+pub fn density(m: u64, metering: u8, z: CompressionFactor) -> Density
+    requires { ⌜ (m ≤ 800000000000) × (724000000 ≤ z .value) ⌝ }
+    ensures { λ r. ⌜ r .value ≡ real (idealDensity m (divisor (temperature metering))) (z .value) ⌝ }
 {
-    Density::new(real(ideal_density(m, divisor), z))
+    Density::new(real(ideal_density(m, metering), z))
 }
 
 // 5. G, the ideal relative density, unit 10^-8; without the factor of air where `air` is 100,000.

@@ -1,6 +1,5 @@
 // 1. The sums of a record over the component table.
 ghost use mathlib.Core.Path.{_≡_};
-ghost use Rattle.components.specs.Table.{componentTable};
 ghost use Rattle.records.specs.Order.{firstOf};
 ghost use Rattle.records.specs.Format.{contentsIn};
 ghost use Rattle.records.specs.Conditions.{recordOrder};
@@ -32,8 +31,7 @@ fn metering_place(metering: u8) -> usize
 }
 
 // The sums of an accepted record, in one pass over its entries.
-pub fn sums_of(table: &[[i32; 12]; 55], bytes: &[u8]) -> Sums
-    requires { ⌜ now table ≡ componentTable ⌝ }
+pub fn sums_of(bytes: &[u8]) -> Sums
     requires { ⌜ firstOf (recordOrder (now bytes)) ≡ 0 ⌝ }
     ensures superior { λ r. ⌜ r .superior ≡ HmSuperior (contentsIn (now (bytes .entry))) ⌝ }
     ensures inferior { λ r. ⌜ r .inferior ≡ HmInferior (contentsIn (now (bytes .entry))) ⌝ }
@@ -48,7 +46,7 @@ pub fn sums_of(table: &[[i32; 12]; 55], bytes: &[u8]) -> Sums
     while i < n {
         let line = records::line_in(bytes, i);
         let fraction = records::fraction_in(bytes, i);
-        sums = components::add_to_sums(table, sums, line, fraction, t, k);
+        sums = components::add_to_sums(sums, line, fraction, t, k);
         i += 1;
     }
     sums

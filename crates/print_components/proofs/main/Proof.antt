@@ -6,19 +6,16 @@ use Rattle.print_components.proofs.main.Statement.{statement}
 use Rattle.print_components.proofs.main.Tie as tie
 
 abbrev Inv-loop : tie.InvT-loop
-Inv-loop table line₀ line = (1 ≤ line) × (line ≤ 56)
+Inv-loop line₀ line = (1 ≤ line) × (line ≤ 56)
 
 abbrev μ-loop : tie.MeasureT-loop
-μ-loop table line₀ line = 56 - line
-
-component-table-requires : tie.Need-component-table-requires Inv-loop μ-loop
-component-table-requires c κs = search needs
+μ-loop line₀ line = 56 - line
 
 loop-holds : tie.Need-loop-holds Inv-loop μ-loop
 loop-holds c = search needs
 
 print-line-requires : tie.Need-print-line-requires Inv-loop μ-loop
-print-line-requires c κs = (c .before .before .before .component-table .ensures, (omega arith, omega arith))
+print-line-requires c κs = (omega arith, omega arith)
 
 add-line : tie.Need-add-line Inv-loop μ-loop
 add-line c = search needs
@@ -38,7 +35,6 @@ main-spec =
     (tie.spec
     Inv-loop
     μ-loop
-    component-table-requires
     loop-holds
     print-line-requires
     add-line

@@ -8,10 +8,10 @@ use Rattle.print_components.proofs.print_line.Statement.{statement}
 use Rattle.print_components.proofs.print_line.Tie as tie
 
 abbrev Inv-loop : tie.InvT-loop
-Inv-loop table line column₀ column = column ≤ 12
+Inv-loop line column₀ column = column ≤ 12
 
 abbrev μ-loop : tie.MeasureT-loop
-μ-loop table line column₀ column = 12 - column
+μ-loop line column₀ column = 12 - column
 
 print-decimal-requires : tie.Need-print-decimal-requires Inv-loop μ-loop
 print-decimal-requires c κs = search needs
@@ -20,8 +20,7 @@ loop-holds : tie.Need-loop-holds Inv-loop μ-loop
 loop-holds c = search needs
 
 entry-requires : tie.Need-entry-requires Inv-loop μ-loop
-entry-requires c κs =
-    let p = c .before .before .before .pre in (p .0, (p .1 .0, p .1 .1, omega arith))
+entry-requires c κs = search needs
 
 cast-print-number : tie.Need-cast-print-number Inv-loop μ-loop
 cast-print-number c = widens (c .entry .result) (sfits-of (c .entry .ok))

@@ -1,5 +1,5 @@
 -- Each step gives its letter of the chain, and the gas keeps each step within what it asks.
-use mathlib.Core.Path.{_≡_, ap, _∙_}
+use mathlib.Core.Path.{_≡_, refl, ap, _∙_}
 use Prim.Native.Nat.{ℕ}
 use native.Mathlib.Omega.{arith}
 use borrow.Author.Needs.{needs}
@@ -15,7 +15,7 @@ use Rattle.records.proofs.RoundTrips.{accepted-head}
 use Rattle.properties.specs.declared.Properties.{Properties}
 use Rattle.properties.specs.Answers.{numbers}
 use Rattle.properties.specs.Chain.{compression, tenth, real, idealCalorific, idealDensity, idealRelative, wobbe, rootOf, Six, T, D, S, S9, Z, Hs, Hi, rho, A, G, d, r, W}
-use Rattle.properties.proofs.Gas.{superior-high, inferior-high, mass-high, summation-high, D-low, A-high, Z-low, Hs-high, d-low, d-high}
+use Rattle.properties.proofs.Gas.{superior-high, inferior-high, mass-high, summation-high, A-high, Z-low, Hs-high, d-low, d-high}
 use Rattle.properties.proofs.calculate.Statement.{statement}
 use Rattle.properties.proofs.calculate.Tie as tie
 
@@ -32,27 +32,24 @@ together p q e1 e2 e3 e4 e5 e6 = rw (e1, e2, e3, e4, e5, e6)
 
 module _ (c : tie.After-struct-told) where
   abbrev start : tie.Start
-  start = c .before .before .before .before .before .before
+  start = c .before .before .before .before .before
 
   abbrev gas : Contents
   gas = contentsIn (start .args .bytes .now)
 
   good : Acceptable gas
-  good = acceptable (start .args .bytes .now) (start .pre .1)
+  good = acceptable (start .args .bytes .now) (start .pre)
 
-  summation-is : toZ w64 (ofZ w64 (c .before .before .before .sums-of .result .summation)) ≡ S gas
+  summation-is : toZ w64 (ofZ w64 (c .before .before .sums-of .result .summation)) ≡ S gas
   summation-is =
-      let e = c .before .before .before .sums-of .ensures .1 .1 .1 in
+      let e = c .before .before .sums-of .ensures .1 .1 .1 in
       toZ-ofZ (fits64 _ (rw e (omega (arith, summation-high gas good)))) ∙ e
 
 shared-slice-read-metering : tie.Need-shared-slice-read-metering
-shared-slice-read-metering c = let s = c .before .before in omega (arith, accepted-head (s .args .bytes .now) (s .pre .1) .long)
+shared-slice-read-metering c = let s = c .before .before in omega (arith, accepted-head (s .args .bytes .now) (s .pre) .long)
 
 sums-of-requires : tie.Need-sums-of-requires
 sums-of-requires c κs = search needs
-
-divisor-requires : tie.Need-divisor-requires
-divisor-requires c κs = search needs
 
 air-factor-requires : tie.Need-air-factor-requires
 air-factor-requires c κs = search needs
@@ -60,17 +57,13 @@ air-factor-requires c κs = search needs
 compression-factor-requires : tie.Need-compression-factor-requires
 compression-factor-requires c κs = rw (summation-is c) (summation-high (gas c) (good c))
 
--- D, A and Z
+-- A and Z
 module _ (c : tie.After-compression-factor) where
   abbrev sums : tie.After-sums-of
-  sums = c .before .before .before .before
+  sums = c .before .before .before
 
   abbrev k : Contents
   k = gas (c .before)
-
-  D-is : c .before .before .before .divisor .result ≡ D k
-  unfolding D T
-  D-is = c .before .before .before .divisor .ensures
 
   A-is : c .before .before .air-factor .result ≡ A k
   unfolding A
@@ -83,19 +76,19 @@ module _ (c : tie.After-compression-factor) where
 calorific-value-requires : tie.Need-calorific-value-requires
 calorific-value-requires c κs =
     let g = good (c .before) in
-    (omega (arith, sums c .sums-of .ensures .0, superior-high (k c) g), omega (arith, D-is c, D-low (k c) g), omega (arith, Z-is c, Z-low (k c) g))
+    (omega (arith, sums c .sums-of .ensures .0, superior-high (k c) g), omega (arith, Z-is c, Z-low (k c) g))
 
 calorific-value-requires-2 : tie.Need-calorific-value-requires-2
 calorific-value-requires-2 c κs =
     let b = c .before in
     let g = good (b .before) in
-    (omega (arith, sums b .sums-of .ensures .1 .0, inferior-high (k b) g), omega (arith, D-is b, D-low (k b) g), omega (arith, Z-is b, Z-low (k b) g))
+    (omega (arith, sums b .sums-of .ensures .1 .0, inferior-high (k b) g), omega (arith, Z-is b, Z-low (k b) g))
 
 density-requires : tie.Need-density-requires
 density-requires c κs =
     let b = c .before .before in
     let g = good (b .before) in
-    (omega (arith, sums b .sums-of .ensures .1 .1 .0, mass-high (k b) g), omega (arith, D-is b, D-low (k b) g), omega (arith, Z-is b, Z-low (k b) g))
+    (omega (arith, sums b .sums-of .ensures .1 .1 .0, mass-high (k b) g), omega (arith, Z-is b, Z-low (k b) g))
 
 relative-density-requires : tie.Need-relative-density-requires
 relative-density-requires c κs =
@@ -109,8 +102,8 @@ module _ (c : tie.After-relative-density) where
   at-z = c .before .before .before .before
 
   Hs-is : c .before .before .before .calorific-value .result .value ≡ Hs (k at-z)
-  unfolding Hs
-  Hs-is = stepped (λ (Hm D Z : ℕ). real (idealCalorific Hm D) Z) (c .before .before .before .calorific-value .ensures) (sums at-z .sums-of .ensures .0) (D-is at-z) (Z-is at-z)
+  unfolding Hs D T
+  Hs-is = stepped (λ (Hm D Z : ℕ). real (idealCalorific Hm D) Z) (c .before .before .before .calorific-value .ensures) (sums at-z .sums-of .ensures .0) refl (Z-is at-z)
 
   d-is : c .relative-density .result .value ≡ d (k at-z)
   unfolding d G
@@ -127,12 +120,12 @@ module _ (c : tie.After-wobbe-index) where
   z = at-z (c .before)
 
   Hi-is : c .before .before .before .calorific-value2 .result .value ≡ Hi (k z)
-  unfolding Hi
-  Hi-is = stepped (λ (Hm D Z : ℕ). real (idealCalorific Hm D) Z) (c .before .before .before .calorific-value2 .ensures) (sums z .sums-of .ensures .1 .0) (D-is z) (Z-is z)
+  unfolding Hi D T
+  Hi-is = stepped (λ (Hm D Z : ℕ). real (idealCalorific Hm D) Z) (c .before .before .before .calorific-value2 .ensures) (sums z .sums-of .ensures .1 .0) refl (Z-is z)
 
   rho-is : c .before .before .density .result .value ≡ rho (k z)
-  unfolding rho
-  rho-is = stepped (λ (M D Z : ℕ). real (idealDensity M D) Z) (c .before .before .density .ensures) (sums z .sums-of .ensures .1 .1 .0) (D-is z) (Z-is z)
+  unfolding rho D T
+  rho-is = stepped (λ (M D Z : ℕ). real (idealDensity M D) Z) (c .before .before .density .ensures) (sums z .sums-of .ensures .1 .1 .0) refl (Z-is z)
 
   W-is : c .wobbe-index .result .value ≡ W (k z)
   unfolding W r
@@ -147,7 +140,6 @@ calculate-spec =
     (tie.spec
     shared-slice-read-metering
     sums-of-requires
-    divisor-requires
     air-factor-requires
     compression-factor-requires
     calorific-value-requires

@@ -15,24 +15,15 @@ returns c =
     let e = c .before in
     refused-properties (e .before .before .args .bytes .now) (e .entries-refusal .ensures) (λ z. omega arith)
 
-component-table-requires : tie.Need-component-table-requires
-component-table-requires c κs = search needs
-
 calculate-requires : tie.Need-calculate-requires
 calculate-requires c κs = search needs
 
 returns-2 : tie.Need-returns-2
 returns-2 c =
-    let j = c .before .before .before in
+    let j = c .before in
     let e = j .before in
     ap accepted (c .calculate .ensures) ∙ accepted-properties (e .before .before .args .bytes .now) (sym (e .entries-refusal .ensures) ∙ j .if1 .left)
 
 pub properties-of-entries-spec : {M : Type 1} → statement M
 properties-of-entries-spec =
-    tie.close
-    (tie.spec
-    entries-refusal-requires
-    returns
-    component-table-requires
-    calculate-requires
-    returns-2)
+    tie.close (tie.spec entries-refusal-requires returns calculate-requires returns-2)

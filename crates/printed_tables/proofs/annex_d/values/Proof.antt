@@ -10,11 +10,11 @@ use Rattle.printed_tables.proofs.annex_d.values.Tie as tie
 
 module _ (c : tie.After-ideal-density) where
   abbrev start : tie.Start
-  start = c .before .before .before .before .before .before
+  start = c .before .before .before .before .before
 
   h-is : c .before .before .ideal-calorific-value .result ≡ idealH
   unfolding idealH D T
-  h-is = rw (c .before .before .ideal-calorific-value .ensures, c .before .before .before .before .before .divisor .ensures, start .pre)
+  h-is = rw (c .before .before .ideal-calorific-value .ensures, start .pre)
 
   d-is : c .before .ideal-relative-density .result ≡ idealD
   unfolding idealD
@@ -31,18 +31,17 @@ unfolding idealHm idealRho idealW D T
 returns c =
     let v = c .before .before .before .before .before in
     let b = v .before .before .before .before in
-    rw (c .value6 .ensures, c .before .value5 .ensures, c .before .before .value4 .ensures, c .before .before .before .value3 .ensures, c .before .before .before .before .value2 .ensures, v .value .ensures, v .before .wobbe-index .ensures, v .before .before .new2 .ensures, v .before .before .before .new .ensures, h-is b, d-is b, b .ideal-density .ensures, b .before .before .before .nearest .ensures, b .before .before .before .before .before .divisor .ensures, start b .pre)
+    rw (c .value6 .ensures, c .before .value5 .ensures, c .before .before .value4 .ensures, c .before .before .before .value3 .ensures, c .before .before .before .before .value2 .ensures, v .value .ensures, v .before .wobbe-index .ensures, v .before .before .new2 .ensures, v .before .before .before .new .ensures, h-is b, d-is b, b .ideal-density .ensures, b .before .before .before .nearest .ensures, start b .pre)
 
 pub values-spec : {M : Type 1} → statement M
 values-spec =
     tie.close
     (tie.spec
-    (λ c κs. search needs)
-    (λ c. record { fits = omega (arith, h-sum (c .before .before .pre)) })
-    (λ c κs. omega (arith, m-sum (c .before .before .pre)))
-    (λ c κs. (omega (arith, h-sum (c .before .before .before .pre)), omega (arith, c .before .before .divisor .ensures)))
-    (λ c κs. (omega (arith, m-sum (c .before .before .before .before .pre)), omega arith))
-    (λ c κs. (omega (arith, m-sum (c .before .before .before .before .before .pre)), omega (arith, c .before .before .before .before .divisor .ensures)))
+    (λ c. record { fits = omega (arith, h-sum (c .before .pre)) })
+    (λ c κs. omega (arith, m-sum (c .before .pre)))
+    (λ c κs. omega (arith, h-sum (c .before .before .pre)))
+    (λ c κs. (omega (arith, m-sum (c .before .before .before .pre)), omega arith))
+    (λ c κs. omega (arith, m-sum (c .before .before .before .before .pre)))
     (λ c κs. omega (arith, h-is c, ideal-h))
     (λ c κs. omega (arith, d-is (c .before), ideal-d))
     wobbe-index-requires

@@ -9,11 +9,11 @@ use Rattle.printed_tables.proofs.gas.figure.Statement.{statement}
 use Rattle.printed_tables.proofs.gas.figure.Tie as tie
 
 low-weight : (c : tie.After-weight) → c .weight .result ≤ 1000000
-low-weight c = omega (arith, c .weight .ensures, weight-high _ (c .before .before .pre .1))
+low-weight c = omega (arith, c .weight .ensures, weight-high _ (c .before .before .pre))
 
 mul-nearest-2 : tie.Need-mul-nearest-2
 mul-nearest-2 c =
-    let high : c .scale .result ≤ 100000 = omega (arith, c .scale .ensures, row-scale-high _ (c .before .before .before .pre .1)) in
+    let high : c .scale .result ≤ 100000 = omega (arith, c .scale .ensures, row-scale-high _ (c .before .before .before .pre)) in
     record { fits = omega (arith, mul-le-mul (product-high _ _ (low-weight (c .before)) (c .before .before .number .ensures)) high) }
 
 returns : tie.Need-returns
@@ -25,7 +25,7 @@ figure-spec =
     (tie.spec
     (λ c. search needs)
     (λ c. search needs)
-    (λ c κs. (c .pre .0, (omega arith, omega (arith, column-in (c .args .k % 6) (omega arith)))))
+    (λ c κs. (omega arith, omega (arith, column-in (c .args .k % 6) (omega arith))))
     (λ c κs. search needs)
     (λ c. product-fits _ _ (low-weight c) (c .before .number .ensures))
     (λ c κs. search needs)

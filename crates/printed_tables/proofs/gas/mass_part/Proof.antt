@@ -14,11 +14,11 @@ use Rattle.printed_tables.proofs.gas.mass_part.Tie as tie
 product : (c : tie.After-fraction) → c .fraction .result * c .before .before .number .result ≤ 1000000 * 1422850
 product c =
     let s = c .before .before .before in
-    let high : c .fraction .result ≤ 1000000 = omega (arith, c .fraction .ensures, fraction-high _ (s .pre .1 .0)) in
+    let high : c .fraction .result ≤ 1000000 = omega (arith, c .fraction .ensures, fraction-high _ (s .pre .0)) in
     mul-le-mul {m₂ = 1422850} high (omega (arith, c .before .before .number .ensures, mass-below (lineAt (s .args .i))))
 
 some-mass : (c : tie.After-number) → 1 ≤ c .number .result
-some-mass c = let l = line-in _ (c .before .pre .1 .0) in omega (arith, c .number .ensures, mass-above _ (l .0) (l .1))
+some-mass c = let l = line-in _ (c .before .pre .0) in omega (arith, c .number .ensures, mass-above _ (l .0) (l .1))
 
 part-is : (c : tie.After-nearest2) → c .before .nearest .result * c .nearest2 .result ≡ massPart (c .before .before .before .before .before .args .i)
 unfolding massPart
@@ -33,8 +33,8 @@ mass-part-spec =
     (λ c κs. search needs)
     (λ c. record { fits = omega (arith, product c) })
     (λ c. record { fits = omega (arith, product c) })
-    (λ c κs. omega (arith, c .before .before .before .pre .1 .1, m-value))
+    (λ c κs. omega (arith, c .before .before .before .pre .1, m-value))
     (λ c. product-fits _ _ (omega arith) (c .before .before .number2 .ensures))
     (λ c κs. some-mass (c .before .before .before))
-    (λ c. record { fits = omega (arith, part-is c, mass-part-high _ (c .before .before .before .before .before .pre .1 .0)) })
+    (λ c. record { fits = omega (arith, part-is c, mass-part-high _ (c .before .before .before .before .before .pre .0)) })
     part-is)

@@ -10,6 +10,6 @@ number-spec =
     tie.close
     (tie.spec
     (λ c. search needs)
-    (λ c. record { fits = omega (arith, line-in _ (c .pre .1 .0)) })
-    (λ c κs. let l = line-in _ (c .pre .1 .0) in (c .pre .0, (l .0, l .1, c .pre .1 .1)))
+    (λ c. record { fits = omega (arith, line-in _ (c .pre .0)) })
+    (λ c κs. let l = line-in _ (c .pre .0) in (l .0, l .1, c .pre .1))
     (λ c. search needs))

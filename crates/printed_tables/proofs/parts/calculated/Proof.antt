@@ -8,14 +8,14 @@ use Rattle.printed_tables.proofs.parts.calculated.Tie as tie
 per-kilogram-requires : tie.Need-per-kilogram-requires
 per-kilogram-requires c κs =
     let s = c .before .before in
-    let h : s .args .k < 384 = rw (c .enum-told .given .1) at (s .pre .1) in
-    (s .pre .0, (omega arith, omega arith, omega arith))
+    let h : s .args .k < 384 = rw (c .enum-told .given .1) at (s .pre) in
+    (omega arith, omega arith, omega arith)
 
 per-cubic-metre-requires : tie.Need-per-cubic-metre-requires
 per-cubic-metre-requires c κs =
     let s = c .before .before in
-    let h : s .args .k < 576 = rw (c .enum-told2 .given .1) at (s .pre .1) in
-    (s .pre .0, (omega arith, omega arith, omega arith))
+    let h : s .args .k < 576 = rw (c .enum-told2 .given .1) at (s .pre) in
+    (omega arith, omega arith, omega arith)
 
 pub calculated-spec : {M : Type 1} → statement M
 calculated-spec =
@@ -28,9 +28,9 @@ calculated-spec =
     (λ c. search needs)
     per-cubic-metre-requires
     (λ c. search needs)
-    (λ c κs. (c .before .before .pre .0, rw (c .enum-told3 .given .1) at (c .before .before .pre .1)))
+    (λ c κs. rw (c .enum-told3 .given .1) at (c .before .before .pre))
     (λ c. search needs)
-    (λ c κs. rw (c .enum-told4 .given .1) at (c .before .before .pre .1))
+    (λ c κs. rw (c .enum-told4 .given .1) at (c .before .before .pre))
     (λ c. rw (c .before .enum-told .given .1) (c .per-kilogram .ensures))
     (λ c. rw (c .before .enum-told2 .given .1) (c .per-cubic-metre .ensures))
     (λ c. rw (c .before .enum-told3 .given .1) (c .figure .ensures))

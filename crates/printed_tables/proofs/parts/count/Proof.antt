@@ -11,11 +11,11 @@ use Rattle.printed_tables.proofs.parts.count.Statement.{statement}
 use Rattle.printed_tables.proofs.parts.count.Tie as tie
 
 abbrev Inv-loop : tie.InvT-loop
-Inv-loop part figures table values counts₀ k₀ counts k =
+Inv-loop part figures values counts₀ k₀ counts k =
     (k ≤ length figures) × (counts ≡ countsOf counts₀ figures (figureAt part values) k)
 
 abbrev μ-loop : tie.MeasureT-loop
-μ-loop part figures table values counts₀ k₀ counts k = length figures - k
+μ-loop part figures values counts₀ k₀ counts k = length figures - k
 
 loop-holds : tie.Need-loop-holds Inv-loop μ-loop
 unfolding countsOf

@@ -5,7 +5,8 @@ use native.Mathlib.Omega.{arith}
 use borrow.Author.Needs.{needs}
 use lib.ListN.{getD}
 use Rattle.rounding.proofs.NearLaws as near
-use Rattle.properties.proofs.StepBounds.{temperature-low, calorific-near}
+use Rattle.properties.specs.Chain.{divisor, temperature}
+use Rattle.properties.proofs.StepBounds.{divisor-low, calorific-near}
 use Rattle.printed_tables.specs.Figures.{superiors, meterings}
 use Rattle.printed_tables.proofs.NumberLaws.{at-most, product-high, product-fits, scale-high}
 use Rattle.printed_tables.proofs.tables.per_cubic_metre.Statement.{statement}
@@ -14,29 +15,25 @@ use Rattle.printed_tables.proofs.tables.per_cubic_metre.Tie as tie
 superior-high : (k : ℕ) → k < 6 → getD superiors k 0 ≤ 10
 superior-high = at-most (λ (k : ℕ). getD superiors k 0) 10 6 tt
 
-module _ (c : tie.After-divisor) where
-  heat-high : 1000000 * c .before .number .result ≤ 6842690000000
-  heat-high = product-high _ _ {x = 1000000} (omega arith) (c .before .number .ensures)
-
-  divisor-low : 831451 * 27315 ≤ c .divisor .result
-  divisor-low = omega (arith, c .divisor .ensures, temperature-low (getD meterings (c .before .before .args .column / 2) 0))
+heat-high : (c : tie.After-number) → 1000000 * c .number .result ≤ 6842690000000
+heat-high c = product-high _ _ {x = 1000000} (omega arith) (c .number .ensures)
 
 value-high : (c : tie.After-ideal-calorific-value) → c .ideal-calorific-value .result ≤ 500000000
 value-high c =
-    let d = divisor-low (c .before) in
-    let close = calorific-near (1000000 * c .before .before .number .result) (c .before .divisor .result) (omega arith) in
+    let d = divisor-low (getD meterings (c .before .before .args .column / 2) 0) in
+    let close = calorific-near (1000000 * c .before .number .result) (divisor (temperature (getD meterings (c .before .before .args .column / 2) 0))) (omega arith) in
     omega (arith, c .ideal-calorific-value .ensures, near.at-most {b = 500000000} close (omega (arith, heat-high (c .before))))
 
 number-requires : tie.Need-number-requires
-number-requires c κs = (c .pre .0, (c .pre .1 .0, c .pre .1 .1, omega (arith, superior-high (c .args .column / 2) (omega arith))))
+number-requires c κs = (c .pre .0, c .pre .1, omega (arith, superior-high (c .args .column / 2) (omega arith)))
 
 mul-nearest : tie.Need-mul-nearest
 mul-nearest c =
-    let high : c .scale .result ≤ 1000 = omega (arith, c .scale .ensures, scale-high 5 (c .before .before .before .before .args .line)) in
+    let high : c .scale .result ≤ 1000 = omega (arith, c .scale .ensures, scale-high 5 (c .before .before .before .args .line)) in
     record { fits = omega (arith, mul-le-mul (value-high (c .before)) high) }
 
 returns : tie.Need-returns
-returns c = rw (c .nearest .ensures, c .before .scale .ensures, c .before .before .ideal-calorific-value .ensures, c .before .before .before .divisor .ensures, c .before .before .before .before .number .ensures)
+returns c = rw (c .nearest .ensures, c .before .scale .ensures, c .before .before .ideal-calorific-value .ensures, c .before .before .before .number .ensures)
 
 pub per-cubic-metre-spec : {M : Type 1} → statement M
 per-cubic-metre-spec =
@@ -46,10 +43,9 @@ per-cubic-metre-spec =
     (λ c. search needs)
     (λ c. record { fits = omega (arith, superior-high (c .args .column / 2) (omega arith)) })
     number-requires
+    (λ c. product-fits _ _ (omega arith) (c .number .ensures))
     (λ c. search needs)
-    (λ c κs. search needs)
-    (λ c. product-fits _ _ (omega arith) (c .before .number .ensures))
-    (λ c κs. (omega (arith, heat-high c), omega (arith, divisor-low c)))
+    (λ c κs. omega (arith, heat-high c))
     (λ c κs. search needs)
     mul-nearest
     (λ c κs. search needs)

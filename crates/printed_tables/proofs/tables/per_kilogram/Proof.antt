@@ -14,7 +14,7 @@ mul-nearest-2 c =
 
 nearest-requires : tie.Need-nearest-requires
 nearest-requires c κs =
-    let s = c .before .before .before in omega (arith, c .before .number2 .ensures, mass-above _ (s .pre .1 .0) (s .pre .1 .1))
+    let s = c .before .before .before in omega (arith, c .before .number2 .ensures, mass-above _ (s .pre .0) (s .pre .1))
 
 returns : tie.Need-returns
 returns c = rw (c .nearest .ensures, c .before .scale .ensures, c .before .before .number2 .ensures, c .before .before .before .number .ensures)

@@ -20,21 +20,21 @@ use Rattle.properties.proofs.sums.sums_of.Statement.{statement}
 use Rattle.properties.proofs.sums.sums_of.Tie as tie
 
 abbrev Inv-loop : tie.InvT-loop
-Inv-loop table bytes t k n sums₀ i₀ sums i =
+Inv-loop bytes t k n sums₀ i₀ sums i =
     Four t k (linesIn bytes) (fractionsIn bytes) (sums .superior) (sums .inferior) (sums .mass) (sums .summation) i
 
 abbrev μ-loop : tie.MeasureT-loop
-μ-loop table bytes t k n sums₀ i₀ sums i = n - i
+μ-loop bytes t k n sums₀ i₀ sums i = n - i
 
 module _ (c : tie.Start Inv-loop μ-loop) where
   abbrev bs : List ℕ
   bs = c .args .bytes .now
 
   headed : Head bs
-  headed = accepted-head bs (c .pre .1)
+  headed = accepted-head bs (c .pre)
 
   good : Acceptable (contentsIn bs)
-  good = acceptable bs (c .pre .1)
+  good = acceptable bs (c .pre)
 
   count : length (linesIn bs) ≡ countIn bs
   count = length-lines (countIn bs) (drop entriesAt bs)
@@ -83,10 +83,10 @@ loop-holds : tie.Need-loop-holds Inv-loop μ-loop
 loop-holds c = rw (c .no-sums .ensures) (no-sums _ _ _ _)
 
 line-in-requires : tie.Need-line-in-requires Inv-loop μ-loop
-line-in-requires c κs = let s = start (c .before) in (accepted-clear (bs s) (s .pre .1), omega arith)
+line-in-requires c κs = let s = start (c .before) in (accepted-clear (bs s) (s .pre), omega arith)
 
 fraction-in-requires : tie.Need-fraction-in-requires Inv-loop μ-loop
-fraction-in-requires c κs = let s = start (c .before .before) in (accepted-clear (bs s) (s .pre .1), omega arith)
+fraction-in-requires c κs = let s = start (c .before .before) in (accepted-clear (bs s) (s .pre), omega arith)
 
 add-to-sums-requires : tie.Need-add-to-sums-requires Inv-loop μ-loop
 add-to-sums-requires c κs =
@@ -94,7 +94,7 @@ add-to-sums-requires c κs =
     let at = i .before .before in
     let s = start at in
     let l = good s .composition .lines (at .loop .i) (omega (arith, count s)) in
-    (s .pre .0, ((rw (i .line-in .ensures) (l .0), rw (i .line-in .ensures) (l .1), combustion-known at, metering-known at), sums-small (at .loop .inv) (good s .composition)))
+    ((rw (i .line-in .ensures) (l .0), rw (i .line-in .ensures) (l .1), combustion-known at, metering-known at), sums-small (at .loop .inv) (good s .composition))
 
 add-i : tie.Need-add-i Inv-loop μ-loop
 add-i c = omega (arith, headed (start (c .before .before .before .before)) .entries .few)

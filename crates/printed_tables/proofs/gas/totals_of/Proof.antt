@@ -1,5 +1,5 @@
--- The sums of the composition are those over all lines; after i turns the others are those of the first i parts.
-use mathlib.Core.Path.{_≡_, refl, ap, _∙_}
+-- After i turns the sums of parts are those of the first i.
+use mathlib.Core.Path.{_≡_, refl, ap}
 use Prim.Native.Nat.{_-_, _≤_}
 use native.Mathlib.Omega.{arith}
 use borrow.Author.Needs.{needs}
@@ -8,31 +8,21 @@ use mir.Syntax.{w64}
 use mir.Val.{toZ, ofZ}
 use mir.Facts.{toZ-ofZ}
 use Rattle.rounding.proofs.SignedWords.{fits64}
-use Rattle.properties.specs.Chain.{HmSuperior, M, S}
+use Rattle.properties.specs.Chain.{S}
 use Rattle.printed_tables.specs.Gas.{gas, fractionAt, massPart, volumePart, sumTo}
-use Rattle.printed_tables.proofs.GasLaws.{composition, h-is, m-is, s-is, s-value, fraction-at-most, mass-part-high, volume-part-high, sum-step, sum-high}
-use Rattle.printed_tables.proofs.gas.sums_of.Statement.{statement}
-use Rattle.printed_tables.proofs.gas.sums_of.Tie as tie
+use Rattle.printed_tables.proofs.GasLaws.{s-value, fraction-at-most, mass-part-high, volume-part-high, sum-step, sum-high}
+use Rattle.printed_tables.proofs.gas.totals_of.Statement.{statement}
+use Rattle.printed_tables.proofs.gas.totals_of.Tie as tie
 
 abbrev Inv-loop : tie.InvT-loop
-Inv-loop table sums m s x₀ mass₀ volume₀ i₀ x mass volume i =
+Inv-loop sums m s x₀ mass₀ volume₀ i₀ x mass volume i =
     (i ≤ 8) × (x ≡ sumTo i fractionAt) × (mass ≡ sumTo i massPart) × (volume ≡ sumTo i volumePart)
 
 abbrev μ-loop : tie.MeasureT-loop
-μ-loop table sums m s x₀ mass₀ volume₀ i₀ x mass volume i = 8 - i
+μ-loop sums m s x₀ mass₀ volume₀ i₀ x mass volume i = 8 - i
 
-module _ (c : tie.After-sums-of Inv-loop μ-loop) where
-  h-sum : c .sums-of .result .superior ≡ HmSuperior gas
-  h-sum = ap natAbs (c .sums-of .ensures .0) ∙ h-is
-
-  m-sum : c .sums-of .result .mass ≡ M gas
-  m-sum = ap natAbs (c .sums-of .ensures .1 .1 .0) ∙ m-is
-
-  s-sum : c .sums-of .result .summation ≡ S gas
-  s-sum = c .sums-of .ensures .1 .1 .1 ∙ s-is
-
-  s-read : toZ w64 (ofZ w64 (c .sums-of .result .summation)) ≡ S gas
-  s-read = rw s-sum (toZ-ofZ (fits64 (S gas) (omega (arith, s-value))))
+s-read : (c : tie.After-sums Inv-loop μ-loop) → toZ w64 (ofZ w64 (c .sums .result .summation)) ≡ S gas
+s-read c = rw (c .sums .ensures .1 .1) (toZ-ofZ (fits64 (S gas) (omega (arith, s-value))))
 
 loop-holds : tie.Need-loop-holds Inv-loop μ-loop
 unfolding sumTo
@@ -55,24 +45,22 @@ returns : tie.Need-returns Inv-loop μ-loop
 returns c = let e : c .before .loop .i ≡ 8 = omega arith in
     let inv = c .before .loop .inv in
     let b = c .before .before .before .before in
-    rw (h-sum b, m-sum b, c .before .before .size .ensures, s-read b, inv .1, inv .2, inv .3, e)
+    rw (b .sums .ensures .0, b .sums .ensures .1 .0, c .before .before .size .ensures, s-read b, inv .1, inv .2, inv .3, e)
 
-pub sums-of-spec : {M : Type 1} → statement M
-sums-of-spec =
+pub totals-of-spec : {M : Type 1} → statement M
+totals-of-spec =
     tie.close
     (tie.spec
     Inv-loop
     μ-loop
-    (λ c. search needs)
-    (λ c. search needs)
-    (λ c κs. (c .before .before .pre, (composition, (omega arith, omega arith))))
+    (λ c κs. search needs)
     (λ c κs. omega (arith, ap natAbs (s-read (c .before)), s-value))
     loop-holds
     (λ c κs. search needs)
     add-x
-    (λ c κs. (c .before .before .before .before .before .before .before .before .pre, (c .before .loop-test .taken, m-sum (c .before .before .before .before .before))))
+    (λ c κs. (c .before .loop-test .taken, c .before .before .before .before .before .sums .ensures .1 .0))
     add-mass
-    (λ c κs. (c .before .before .before .before .before .before .before .before .before .pre, c .before .before .loop-test .taken))
+    (λ c κs. c .before .before .loop-test .taken)
     add-volume
     (λ c. search needs)
     (λ c. search needs)
