@@ -3,7 +3,7 @@
 ghost use mathlib.Core.Path.{_≡_};
 ghost use Rattle.records.specs.Order.{firstOf};
 ghost use Rattle.records.specs.Format.{contentsIn};
-ghost use Rattle.records.specs.Conditions.{headOrder, recordOrder};
+ghost use Rattle.records.specs.Conditions.{recordOrder};
 ghost use Rattle.properties.specs.Chain.{sixOf, propertiesOf};
 ghost use Rattle.properties.specs.Answers.{numbers, meaning};
 
@@ -38,7 +38,7 @@ fn calculate(bytes: &[u8]) -> Properties
     requires { ⌜ firstOf (recordOrder (now bytes)) ≡ 0 ⌝ }
     ensures { λ r. ⌜ numbers r ≡ sixOf (contentsIn (now (bytes .entry))) ⌝ }
 {
-    let metering = bytes[6];
+    let metering = records::metering_in(bytes);
     let sums = sums::sums_of(bytes);
     let air = steps::air_factor(metering);
     let z = steps::compression_factor(sums.summation);
@@ -61,19 +61,7 @@ fn calculate(bytes: &[u8]) -> Properties
 pub fn properties_of(bytes: &[u8]) -> Answer
     ensures { λ r. ⌜ meaning r ≡ propertiesOf (now (bytes .entry)) ⌝ }
 {
-    let head = records::head_refusal(bytes);
-    if head != 0 {
-        return Answer::Refused(head);
-    }
-    properties_of_entries(bytes)
-}
-
-// The same where none of 1 to 6 holds.
-fn properties_of_entries(bytes: &[u8]) -> Answer
-    requires { ⌜ firstOf (headOrder (now bytes)) ≡ 0 ⌝ }
-    ensures { λ r. ⌜ meaning r ≡ propertiesOf (now (bytes .entry)) ⌝ }
-{
-    let refusal = records::entries_refusal(bytes);
+    let refusal = records::refusal(bytes);
     if refusal != 0 {
         return Answer::Refused(refusal);
     }

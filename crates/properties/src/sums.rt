@@ -38,9 +38,9 @@ pub fn sums_of(bytes: &[u8]) -> Sums
     ensures mass { λ r. ⌜ r .mass ≡ M (contentsIn (now (bytes .entry))) ⌝ }
     ensures summation { λ r. ⌜ r .summation ≡ S (contentsIn (now (bytes .entry))) ⌝ }
 {
-    let t = combustion_place(bytes[5]);
-    let k = metering_place(bytes[6]);
-    let n = bytes[7] as usize;
+    let t = combustion_place(records::combustion_in(bytes));
+    let k = metering_place(records::metering_in(bytes));
+    let n = records::count_in(bytes);
     let mut sums = components::no_sums();
     let mut i = 0;
     while i < n {

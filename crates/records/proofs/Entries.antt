@@ -11,7 +11,7 @@ use Rattle.records.specs.Format.{entriesAt, recordLength, number4, count
 use Rattle.records.specs.Answers.{padded}
 use Rattle.records.proofs.Placing.{placed-none, placed-after}
 
-pub length-lines : (n : ℕ) (es : List ℕ) → length (linesOf n es) ≡ n
+length-lines : (n : ℕ) (es : List ℕ) → length (linesOf n es) ≡ n
 unfolding linesOf
 length-lines zero es = refl
 length-lines (suc n) es = ap suc (length-lines n (drop 5 es))

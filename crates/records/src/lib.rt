@@ -10,7 +10,6 @@ mod conditions;
 mod format;
 mod scan;
 
-pub use conditions::head_refusal;
 pub use format::combustion_in;
 pub use format::count_in;
 pub use format::fraction_in;
@@ -18,7 +17,6 @@ pub use format::line_in;
 pub use format::metering_in;
 pub use format::number_2;
 pub use format::number_4;
-pub use scan::entries_refusal;
 
 // Accepted, or refused with document 01's number.
 pub enum Verdict {

@@ -1,5 +1,5 @@
 -- Each step gives its letter of the chain, and the gas keeps each step within what it asks.
-use mathlib.Core.Path.{_≡_, refl, ap, _∙_}
+use mathlib.Core.Path.{_≡_, ap, _∙_}
 use Prim.Native.Nat.{ℕ}
 use native.Mathlib.Omega.{arith}
 use borrow.Author.Needs.{needs}
@@ -14,7 +14,7 @@ use Rattle.records.proofs.Accepted.{acceptable}
 use Rattle.records.proofs.RoundTrips.{accepted-head}
 use Rattle.properties.specs.declared.Properties.{Properties}
 use Rattle.properties.specs.Answers.{numbers}
-use Rattle.properties.specs.Chain.{compression, tenth, real, idealCalorific, idealDensity, idealRelative, wobbe, rootOf, Six, T, D, S, S9, Z, Hs, Hi, rho, A, G, d, r, W}
+use Rattle.properties.specs.Chain.{temperature, divisor, airFactor, compression, tenth, real, idealCalorific, idealDensity, idealRelative, wobbe, rootOf, Six, T, D, S, S9, Z, Hs, Hi, rho, A, G, d, r, W}
 use Rattle.properties.proofs.Gas.{superior-high, inferior-high, mass-high, summation-high, A-high, Z-low, Hs-high, d-low, d-high}
 use Rattle.properties.proofs.calculate.Statement.{statement}
 use Rattle.properties.proofs.calculate.Tie as tie
@@ -45,19 +45,10 @@ module _ (c : tie.After-struct-told) where
       let e = c .before .before .sums-of .ensures .1 .1 .1 in
       toZ-ofZ (fits64 _ (rw e (omega (arith, summation-high gas good)))) ∙ e
 
-shared-slice-read-metering : tie.Need-shared-slice-read-metering
-shared-slice-read-metering c = let s = c .before .before in omega (arith, accepted-head (s .args .bytes .now) (s .pre) .long)
-
-sums-of-requires : tie.Need-sums-of-requires
-sums-of-requires c κs = search needs
-
-air-factor-requires : tie.Need-air-factor-requires
-air-factor-requires c κs = search needs
-
 compression-factor-requires : tie.Need-compression-factor-requires
 compression-factor-requires c κs = rw (summation-is c) (summation-high (gas c) (good c))
 
--- A and Z
+-- D, A and Z
 module _ (c : tie.After-compression-factor) where
   abbrev sums : tie.After-sums-of
   sums = c .before .before .before
@@ -65,9 +56,13 @@ module _ (c : tie.After-compression-factor) where
   abbrev k : Contents
   k = gas (c .before)
 
+  D-is : divisor (temperature (sums .before .metering-in .result)) ≡ D k
+  unfolding D T
+  D-is = ap (λ (m : ℕ). divisor (temperature m)) (sums .before .metering-in .ensures)
+
   A-is : c .before .before .air-factor .result ≡ A k
   unfolding A
-  A-is = c .before .before .air-factor .ensures
+  A-is = c .before .before .air-factor .ensures ∙ ap airFactor (sums .before .metering-in .ensures)
 
   Z-is : c .compression-factor .result .value ≡ Z k
   unfolding Z S9
@@ -102,8 +97,8 @@ module _ (c : tie.After-relative-density) where
   at-z = c .before .before .before .before
 
   Hs-is : c .before .before .before .calorific-value .result .value ≡ Hs (k at-z)
-  unfolding Hs D T
-  Hs-is = stepped (λ (Hm D Z : ℕ). real (idealCalorific Hm D) Z) (c .before .before .before .calorific-value .ensures) (sums at-z .sums-of .ensures .0) refl (Z-is at-z)
+  unfolding Hs
+  Hs-is = stepped (λ (Hm D Z : ℕ). real (idealCalorific Hm D) Z) (c .before .before .before .calorific-value .ensures) (sums at-z .sums-of .ensures .0) (D-is at-z) (Z-is at-z)
 
   d-is : c .relative-density .result .value ≡ d (k at-z)
   unfolding d G
@@ -120,12 +115,12 @@ module _ (c : tie.After-wobbe-index) where
   z = at-z (c .before)
 
   Hi-is : c .before .before .before .calorific-value2 .result .value ≡ Hi (k z)
-  unfolding Hi D T
-  Hi-is = stepped (λ (Hm D Z : ℕ). real (idealCalorific Hm D) Z) (c .before .before .before .calorific-value2 .ensures) (sums z .sums-of .ensures .1 .0) refl (Z-is z)
+  unfolding Hi
+  Hi-is = stepped (λ (Hm D Z : ℕ). real (idealCalorific Hm D) Z) (c .before .before .before .calorific-value2 .ensures) (sums z .sums-of .ensures .1 .0) (D-is z) (Z-is z)
 
   rho-is : c .before .before .density .result .value ≡ rho (k z)
-  unfolding rho D T
-  rho-is = stepped (λ (M D Z : ℕ). real (idealDensity M D) Z) (c .before .before .density .ensures) (sums z .sums-of .ensures .1 .1 .0) refl (Z-is z)
+  unfolding rho
+  rho-is = stepped (λ (M D Z : ℕ). real (idealDensity M D) Z) (c .before .before .density .ensures) (sums z .sums-of .ensures .1 .1 .0) (D-is z) (Z-is z)
 
   W-is : c .wobbe-index .result .value ≡ W (k z)
   unfolding W r
@@ -138,9 +133,9 @@ pub calculate-spec : {M : Type 1} → statement M
 calculate-spec =
     tie.close
     (tie.spec
-    shared-slice-read-metering
-    sums-of-requires
-    air-factor-requires
+    (λ c κs. accepted-head (c .before .args .bytes .now) (c .before .pre) .long)
+    (λ c κs. search needs)
+    (λ c κs. search needs)
     compression-factor-requires
     calorific-value-requires
     calorific-value-requires-2

@@ -1,30 +1,22 @@
--- The head's number, or what the entries give.
-use mathlib.Core.Path.{sym, _∙_}
+-- The refusal, or the properties of what the record holds.
+use mathlib.Core.Path.{sym, ap, _∙_}
 use native.Mathlib.Omega.{arith}
 use borrow.Author.Needs.{needs}
-use Rattle.records.specs.Format.{linesIn, fractionsIn}
-use Rattle.records.specs.Conditions.{headOrder, contentOrder}
-use Rattle.records.proofs.OrderLaws.{stops}
-use Rattle.properties.proofs.Outcomes.{refused-properties}
+use Rattle.records.specs.Order.{accepted}
+use Rattle.properties.proofs.Outcomes.{refused-properties, accepted-properties}
 use Rattle.properties.proofs.properties_of.Statement.{statement}
 use Rattle.properties.proofs.properties_of.Tie as tie
 
-head-refusal-requires : tie.Need-head-refusal-requires
-head-refusal-requires c κs = search needs
-
 returns : tie.Need-returns
 returns c =
-    let b = c .before in
-    let bs = b .before .before .args .bytes .now in
-    refused-properties bs (stops (headOrder bs) (contentOrder (linesIn bs) (fractionsIn bs)) (b .head-refusal .ensures) (λ z. omega arith)) (λ z. omega arith)
-
-properties-of-entries-requires : tie.Need-properties-of-entries-requires
-properties-of-entries-requires c κs = sym (c .before .head-refusal .ensures) ∙ c .if1 .left
+    let e = c .before in
+    refused-properties (e .before .before .args .bytes .now) (e .refusal .ensures) (λ z. omega arith)
 
 returns-2 : tie.Need-returns-2
-returns-2 c = c .properties-of-entries .ensures
+returns-2 c =
+    let j = c .before in
+    let e = j .before in
+    ap accepted (c .calculate .ensures) ∙ accepted-properties (e .before .before .args .bytes .now) (sym (e .refusal .ensures) ∙ j .if1 .left)
 
 pub properties-of-spec : {M : Type 1} → statement M
-properties-of-spec =
-    tie.close
-    (tie.spec head-refusal-requires returns properties-of-entries-requires returns-2)
+properties-of-spec = tie.close (tie.spec (λ c κs. search needs) returns (λ c κs. search needs) returns-2)

@@ -3,14 +3,15 @@ use mathlib.Core.Path.{_≡_, refl, sym, ap, _∙_}
 use mathlib.Core.List.{List}
 use Prim.Native.Nat.{ℕ, _-_, _<_}
 use native.Mathlib.Omega.{arith}
-use lib.ListN.{length, drop}
+use borrow.Author.Needs.{needs}
+use lib.ListN.{length}
 use Rattle.components.specs.Table.{superior, inferior, summation}
 use Rattle.components.specs.Composition.{sumOf}
 use Rattle.components.proofs.Summing.{Four, no-sums, sums-small, next-sums, all-sums}
-use Rattle.records.specs.Format.{entriesAt, combustionIn, meteringIn, countIn, linesIn, fractionsIn, contentsIn}
+use Rattle.records.specs.Format.{combustionIn, meteringIn, countIn, linesIn, fractionsIn, contentsIn}
 use Rattle.records.specs.Accepted.{Acceptable}
 use Rattle.records.proofs.Heads.{Head}
-use Rattle.records.proofs.Entries.{length-lines}
+use Rattle.records.proofs.Entries.{count-lines}
 use Rattle.records.proofs.RoundTrips.{accepted-clear, accepted-head}
 use Rattle.records.proofs.Accepted.{acceptable}
 use Rattle.properties.specs.Chain.{combustionPlace, meteringPlace, HmSuperior, HmInferior, M, S}
@@ -36,21 +37,24 @@ module _ (c : tie.Start Inv-loop μ-loop) where
   good : Acceptable (contentsIn bs)
   good = acceptable bs (c .pre)
 
-  count : length (linesIn bs) ≡ countIn bs
-  count = length-lines (countIn bs) (drop entriesAt bs)
-
 module _ (at : tie.At-loop Inv-loop μ-loop) where
   abbrev placed : tie.After-metering-place Inv-loop μ-loop
   placed = at .before .before .before
+
+  n-is : at .before .before .count-in .result ≡ countIn (bs (placed .before .before .before .before .before))
+  n-is = at .before .before .count-in .ensures .0
 
   abbrev start : tie.Start Inv-loop μ-loop
   start = placed .before .before .before .before .before
 
   combustion-is : placed .before .before .combustion-place .result ≡ combustionPlace (combustionIn (bs start))
-  combustion-is = placed .before .before .combustion-place .ensures
+  combustion-is = placed .before .before .combustion-place .ensures ∙ ap combustionPlace (placed .before .before .before .combustion-in .ensures)
 
   metering-is : placed .metering-place .result ≡ meteringPlace (meteringIn (bs start))
-  metering-is = placed .metering-place .ensures
+  metering-is = placed .metering-place .ensures ∙ ap meteringPlace (placed .before .metering-in .ensures)
+
+  count : length (linesIn (bs start)) ≡ at .before .before .count-in .result
+  count = count-lines (bs start) ∙ sym n-is
 
   combustion-known : placed .before .before .combustion-place .result < 4
   combustion-known = rw combustion-is (combustion-place (combustionIn (bs start)))
@@ -58,46 +62,25 @@ module _ (at : tie.At-loop Inv-loop μ-loop) where
   metering-known : placed .metering-place .result < 3
   metering-known = rw metering-is (metering-place (meteringIn (bs start)))
 
-shared-slice-read-combustion-place : tie.Need-shared-slice-read-combustion-place Inv-loop μ-loop
-shared-slice-read-combustion-place c = omega (arith, headed (c .before .before) .long)
-
-combustion-place-requires : tie.Need-combustion-place-requires Inv-loop μ-loop
-combustion-place-requires c κs = tt
-
-shared-slice-read-metering-place : tie.Need-shared-slice-read-metering-place Inv-loop μ-loop
-shared-slice-read-metering-place c = omega (arith, headed (c .before .before .before .before) .long)
-
-metering-place-requires : tie.Need-metering-place-requires Inv-loop μ-loop
-metering-place-requires c κs = tt
-
-shared-slice-read-n : tie.Need-shared-slice-read-n Inv-loop μ-loop
-shared-slice-read-n c = omega (arith, headed (c .before .before .before .before .before .before) .long)
-
-cast-n : tie.Need-cast-n Inv-loop μ-loop
-cast-n c = omega (arith, c .shared-slice-known4 .given 7)
-
-no-sums-requires : tie.Need-no-sums-requires Inv-loop μ-loop
-no-sums-requires c κs = tt
-
 loop-holds : tie.Need-loop-holds Inv-loop μ-loop
 loop-holds c = rw (c .no-sums .ensures) (no-sums _ _ _ _)
 
 line-in-requires : tie.Need-line-in-requires Inv-loop μ-loop
-line-in-requires c κs = let s = start (c .before) in (accepted-clear (bs s) (s .pre), omega arith)
+line-in-requires c κs = let s = start (c .before) in (accepted-clear (bs s) (s .pre), omega (arith, n-is (c .before)))
 
 fraction-in-requires : tie.Need-fraction-in-requires Inv-loop μ-loop
-fraction-in-requires c κs = let s = start (c .before .before) in (accepted-clear (bs s) (s .pre), omega arith)
+fraction-in-requires c κs = let s = start (c .before .before) in (accepted-clear (bs s) (s .pre), omega (arith, n-is (c .before .before)))
 
 add-to-sums-requires : tie.Need-add-to-sums-requires Inv-loop μ-loop
 add-to-sums-requires c κs =
     let i = c .before in
     let at = i .before .before in
     let s = start at in
-    let l = good s .composition .lines (at .loop .i) (omega (arith, count s)) in
+    let l = good s .composition .lines (at .loop .i) (omega (arith, count at)) in
     ((rw (i .line-in .ensures) (l .0), rw (i .line-in .ensures) (l .1), combustion-known at, metering-known at), sums-small (at .loop .inv) (good s .composition))
 
 add-i : tie.Need-add-i Inv-loop μ-loop
-add-i c = omega (arith, headed (start (c .before .before .before .before)) .entries .few)
+add-i c = search needs
 
 loop-less : tie.Need-loop-less Inv-loop μ-loop
 loop-less c = omega arith
@@ -107,7 +90,7 @@ loop-again c =
     let f = c .before in
     let i = f .before in
     let at = i .before .before in
-    next-sums (at .loop .inv) (good (start at) .composition) (omega (arith, count (start at))) (rw (i .line-in .ensures, f .fraction-in .ensures) at (c .add-to-sums .ensures))
+    next-sums (at .loop .inv) (good (start at) .composition) (omega (arith, count at)) (rw (i .line-in .ensures, f .fraction-in .ensures) at (c .add-to-sums .ensures))
 
 returns : tie.Need-returns Inv-loop μ-loop
 unfolding HmSuperior HmInferior M S
@@ -115,7 +98,7 @@ returns c =
     let at = c .before in
     let k = contentsIn (bs (start at)) in
     let a = good (start at) in
-    let e = all-sums (at .loop .inv) (omega (arith, count (start at))) in (
+    let e = all-sums (at .loop .inv) (omega (arith, count at)) in (
       amount-is k a (ap superior (combustion-is at)) _ (e .0),
       (
         amount-is k a (ap inferior (combustion-is at)) _ (e .1 .0),
@@ -132,13 +115,12 @@ sums-of-spec =
     (tie.spec
     Inv-loop
     μ-loop
-    shared-slice-read-combustion-place
-    combustion-place-requires
-    shared-slice-read-metering-place
-    metering-place-requires
-    shared-slice-read-n
-    cast-n
-    no-sums-requires
+    (λ c κs. headed (c .before) .long)
+    (λ c κs. tt)
+    (λ c κs. headed (c .before .before .before) .long)
+    (λ c κs. tt)
+    (λ c κs. headed (c .before .before .before .before .before) .long)
+    (λ c κs. tt)
     loop-holds
     line-in-requires
     fraction-in-requires
