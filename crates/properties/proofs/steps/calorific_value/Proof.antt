@@ -1,6 +1,7 @@
 -- The ideal and the real value are below their bounds.
 use borrow.Author.Needs.{needs}
 use native.Mathlib.Omega.{arith}
+use Rattle.properties.specs.Bounds.{idealCalorificHigh}
 use Rattle.properties.specs.Quantities.{calorificBound}
 use Rattle.properties.proofs.StepBounds.{divisor-low, ideal-calorific-high, step-high}
 use Rattle.properties.proofs.steps.calorific_value.Statement.{statement}
@@ -17,7 +18,7 @@ real-requires c κs =
 new-requires : tie.Need-new-requires
 new-requires c κs =
     let b = c .before .before in
-    step-high 175000000 calorificBound (c .before .ideal-calorific-value .ensures) (ideal-calorific-high (b .args .hm) _ (b .pre .0) (divisor-low (b .args .metering))) (b .pre .1) (c .real .ensures) (omega arith)
+    step-high idealCalorificHigh calorificBound (c .before .ideal-calorific-value .ensures) (ideal-calorific-high (b .args .hm) _ (b .pre .0) (divisor-low (b .args .metering))) (b .pre .1) (c .real .ensures) (omega arith)
 
 returns : tie.Need-returns
 returns c = cc

@@ -20,7 +20,7 @@ module _ (c : tie.After-nearest-signed) where
   value : toZ w64 (ofZ w64 (c .nearest-signed .result)) ≡ tenth (c .before .args .s)
   value = toZ-ofZ (sfits-of (c .nearest-signed .ok)) ∙ c .nearest-signed .ensures ∙ ap tenth (toZ-ofZ (c .before .fits .s))
 
-  small : natAbs (tenth (c .before .args .s)) ≤ 525000000
+  small : natAbs (tenth (c .before .args .s)) ≤ 10 ^ 9
   small = tenth-high (c .before .args .s) (c .before .pre)
 
   square-is : (r : ℕ) → r ≡ natAbs (toZ w64 (ofZ w64 (c .nearest-signed .result))) * natAbs (toZ w64 (ofZ w64 (c .nearest-signed .result)))

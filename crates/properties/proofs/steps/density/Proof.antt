@@ -1,6 +1,7 @@
 -- The ideal and the real value are below their bounds.
 use borrow.Author.Needs.{needs}
 use native.Mathlib.Omega.{arith}
+use Rattle.properties.specs.Bounds.{idealHigh}
 use Rattle.properties.specs.Quantities.{densityBound}
 use Rattle.properties.proofs.StepBounds.{divisor-low, ideal-density-high, step-high}
 use Rattle.properties.proofs.steps.density.Statement.{statement}
@@ -17,7 +18,7 @@ real-requires c κs =
 new-requires : tie.Need-new-requires
 new-requires c κs =
     let b = c .before .before in
-    step-high 357000000 densityBound (c .before .ideal-density .ensures) (ideal-density-high (b .args .m) _ (b .pre .0) (divisor-low (b .args .metering))) (b .pre .1) (c .real .ensures) (omega arith)
+    step-high idealHigh densityBound (c .before .ideal-density .ensures) (ideal-density-high (b .args .m) _ (b .pre .0) (divisor-low (b .args .metering))) (b .pre .1) (c .real .ensures) (omega arith)
 
 returns : tie.Need-returns
 returns c = cc

@@ -1,6 +1,7 @@
 -- The ideal and the real value are below their bounds.
 use borrow.Author.Needs.{needs}
 use native.Mathlib.Omega.{arith}
+use Rattle.properties.specs.Bounds.{idealRelativeHigh}
 use Rattle.properties.specs.Quantities.{relativeBound}
 use Rattle.properties.proofs.StepBounds.{ideal-relative-high, step-high}
 use Rattle.properties.proofs.steps.relative_density.Statement.{statement}
@@ -17,7 +18,7 @@ real-requires c κs =
 new-requires : tie.Need-new-requires
 new-requires c κs =
     let b = c .before .before in
-    step-high 277000000 relativeBound (c .before .ideal-relative-density .ensures) (ideal-relative-high (b .args .m) (b .args .air) (b .pre .0) (b .pre .1)) (b .pre .2) (c .real .ensures) (omega arith)
+    step-high idealRelativeHigh relativeBound (c .before .ideal-relative-density .ensures) (ideal-relative-high (b .args .m) (b .args .air) (b .pre .0) (b .pre .1)) (b .pre .2) (c .real .ensures) (omega arith)
 
 returns : tie.Need-returns
 returns c = cc

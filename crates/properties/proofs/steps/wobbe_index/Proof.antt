@@ -3,6 +3,7 @@ use borrow.Author.Needs.{needs}
 use mathlib.Core.Path.{_≡_, _∙_}
 use Prim.Native.Nat.{_≤_}
 use native.Mathlib.Omega.{arith}
+use Rattle.properties.specs.Bounds.{rootLow}
 use Rattle.properties.specs.Chain.{rootOf, wobbe}
 use Rattle.properties.proofs.StepBounds.{root-low, wobbe-high}
 use Rattle.properties.proofs.steps.wobbe_index.Statement.{statement}
@@ -12,7 +13,7 @@ use Rattle.properties.proofs.steps.wobbe_index.Tie as tie
 root-value : (c : tie.After-integer-root) → c .integer-root .result ≡ rootOf (c .before .before .args .d .value)
 root-value c = cc
 
-least : (c : tie.After-integer-root) → 525000000 ≤ rootOf (c .before .before .args .d .value)
+least : (c : tie.After-integer-root) → rootLow ≤ rootOf (c .before .before .args .d .value)
 least c = let b = c .before .before in root-low (b .args .d .value) (b .pre .1) (b .pre .2)
 
 index-value : (c : tie.After-nearest)
