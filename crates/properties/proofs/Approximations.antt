@@ -86,7 +86,7 @@ module _ (U X s : ℕ) (big : X ≤ summationHigh * U) (near-s : Within (6 over 
   fits = omega (arith, mul-le-mul big big)
 
   -- the exact compression factor is above 0
-  pub exact-pos : 0 < compression (tenth (X over U)) .num
+  exact-pos : 0 < compression (tenth (X over U)) .num
   exact-pos = omega (arith, fits, mul-pos U-pos U-pos)
 
   pub z-within : Within (114 over 100) z (compression (tenth (X over U)))

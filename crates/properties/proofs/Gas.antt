@@ -30,7 +30,7 @@ use Rattle.properties.proofs.Approximations.{z-low, z-within, real-with
 use Rattle.properties.proofs.Index.{indexed}
 use Rattle.properties.proofs.StepBounds.{tenth-high, compression-high, divisor-low, temperature-high, air-low, air-high, metering-place, combustion-place, calorific-near, ideal-calorific-high, ideal-calorific-low, density-near, ideal-density-high, relative-near, ideal-relative-high, ideal-relative-low, real-high, real-low, root-of, root-low, wobbe-near, wobbe-high, wobbe-low}
 
-pub heats : (c : ℕ) → Heat (superior (combustionPlace c)) × Heat (inferior (combustionPlace c))
+heats : (c : ℕ) → Heat (superior (combustionPlace c)) × Heat (inferior (combustionPlace c))
 heats c = let h = combustion-place c in ((omega arith, omega arith), (omega arith, omega arith))
 
 module _ (k : Contents) (a : Acceptable k) where
@@ -55,7 +55,7 @@ module _ (k : Contents) (a : Acceptable k) where
   in-bounds : Bounds (k .lines) (k .fractions)
   in-bounds = methane-bounds (k .lines) (k .fractions) (a .composition) (a .share)
 
-  pub superior-low : heatLow ≤ HmSuperior k
+  superior-low : heatLow ≤ HmSuperior k
   unfolding HmSuperior
   superior-low = rw (over-entries _) (in-bounds .heat-low _ (heats (k .combustion) .0))
 
@@ -80,7 +80,7 @@ module _ (k : Contents) (a : Acceptable k) where
   summation-high = rw (over-entries _) (in-bounds .summation-high _ (metering-place (k .metering)))
 
   -- T, D and A
-  pub D-low : divisorLow ≤ D k
+  D-low : divisorLow ≤ D k
   unfolding D T
   D-low = divisor-low (k .metering)
 

@@ -25,7 +25,7 @@ chosen P {x} {y} {z} hx hy hz m = go (eqb m 0) (eqb m 15)
     go false true = hy
     go false false = hz
 
-pub temperature-low : (m : ℕ) → 27315 ≤ temperature m
+temperature-low : (m : ℕ) → 27315 ≤ temperature m
 temperature-low = chosen (λ (n : ℕ). 27315 ≤ n) (omega arith) (omega arith) (omega arith)
 
 pub divisor-low : (m : ℕ) → divisorLow ≤ divisor (temperature m)
@@ -109,7 +109,7 @@ module _ (d : ℕ) (d-low : relativeLow ≤ d) (d-high : d ≤ relativeBound) wh
   pub root-low : rootLow ≤ rootOf d
   root-low = root-greatest root-of rootLow (omega arith)
 
-  pub root-high : rootOf d < 2 ^ 32
+  root-high : rootOf d < 2 ^ 32
   root-high = below-of-squares _ (2 ^ 32) (d * 10 ^ 10) (root-of .square) (omega arith)
 
   pub wobbe-near : (Hs : ℕ) → Within half (wobbe Hs (rootOf d)) ((Hs * 10 ^ 9) over rootOf d)
