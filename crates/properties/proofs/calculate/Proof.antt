@@ -48,15 +48,6 @@ module _ (c : tie.After-struct-told) where
 shared-slice-read-metering : tie.Need-shared-slice-read-metering
 shared-slice-read-metering c = let s = c .before .before in omega (arith, accepted-head (s .args .bytes .now) (s .pre) .long)
 
-sums-of-requires : tie.Need-sums-of-requires
-sums-of-requires c κs = search needs
-
-air-factor-requires : tie.Need-air-factor-requires
-air-factor-requires c κs = search needs
-
-compression-factor-requires : tie.Need-compression-factor-requires
-compression-factor-requires c κs = rw (summation-is c) (summation-high (gas c) (good c))
-
 -- A and Z
 module _ (c : tie.After-compression-factor) where
   abbrev sums : tie.After-sums-of
@@ -139,9 +130,9 @@ calculate-spec =
     tie.close
     (tie.spec
     shared-slice-read-metering
-    sums-of-requires
-    air-factor-requires
-    compression-factor-requires
+    (λ c κs. search needs)
+    (λ c κs. search needs)
+    (λ c κs. rw (summation-is c) (summation-high (gas c) (good c)))
     calorific-value-requires
     calorific-value-requires-2
     density-requires

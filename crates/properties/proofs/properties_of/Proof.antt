@@ -9,22 +9,13 @@ use Rattle.properties.proofs.Outcomes.{refused-properties}
 use Rattle.properties.proofs.properties_of.Statement.{statement}
 use Rattle.properties.proofs.properties_of.Tie as tie
 
-head-refusal-requires : tie.Need-head-refusal-requires
-head-refusal-requires c κs = search needs
-
 returns : tie.Need-returns
 returns c =
     let b = c .before in
     let bs = b .before .before .args .bytes .now in
     refused-properties bs (stops (headOrder bs) (contentOrder (linesIn bs) (fractionsIn bs)) (b .head-refusal .ensures) (λ z. omega arith)) (λ z. omega arith)
 
-properties-of-entries-requires : tie.Need-properties-of-entries-requires
-properties-of-entries-requires c κs = sym (c .before .head-refusal .ensures) ∙ c .if1 .left
-
-returns-2 : tie.Need-returns-2
-returns-2 c = c .properties-of-entries .ensures
-
 pub properties-of-spec : {M : Type 1} → statement M
 properties-of-spec =
     tie.close
-    (tie.spec head-refusal-requires returns properties-of-entries-requires returns-2)
+    (tie.spec (λ c κs. search needs) returns (λ c κs. sym (c .before .head-refusal .ensures) ∙ c .if1 .left) (λ c. c .properties-of-entries .ensures))

@@ -7,16 +7,10 @@ use Rattle.properties.proofs.Outcomes.{refused-properties, accepted-pro
 use Rattle.properties.proofs.properties_of_entries.Statement.{statement}
 use Rattle.properties.proofs.properties_of_entries.Tie as tie
 
-entries-refusal-requires : tie.Need-entries-refusal-requires
-entries-refusal-requires c κs = search needs
-
 returns : tie.Need-returns
 returns c =
     let e = c .before in
     refused-properties (e .before .before .args .bytes .now) (e .entries-refusal .ensures) (λ z. omega arith)
-
-calculate-requires : tie.Need-calculate-requires
-calculate-requires c κs = search needs
 
 returns-2 : tie.Need-returns-2
 returns-2 c =
@@ -26,4 +20,4 @@ returns-2 c =
 
 pub properties-of-entries-spec : {M : Type 1} → statement M
 properties-of-entries-spec =
-    tie.close (tie.spec entries-refusal-requires returns calculate-requires returns-2)
+    tie.close (tie.spec (λ c κs. search needs) returns (λ c κs. search needs) returns-2)

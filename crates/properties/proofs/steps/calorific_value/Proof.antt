@@ -7,9 +7,6 @@ use Rattle.properties.proofs.StepBounds.{divisor-low, ideal-calorific-h
 use Rattle.properties.proofs.steps.calorific_value.Statement.{statement}
 use Rattle.properties.proofs.steps.calorific_value.Tie as tie
 
-ideal-calorific-value-requires : tie.Need-ideal-calorific-value-requires
-ideal-calorific-value-requires c κs = search needs
-
 real-requires : tie.Need-real-requires
 real-requires c κs =
     let b = c .before in
@@ -20,9 +17,6 @@ new-requires c κs =
     let b = c .before .before in
     step-high idealCalorificHigh calorificBound (c .before .ideal-calorific-value .ensures) (ideal-calorific-high (b .args .hm) _ (b .pre .0) (divisor-low (b .args .metering))) (b .pre .1) (c .real .ensures) (omega arith)
 
-returns : tie.Need-returns
-returns c = cc
-
 pub calorific-value-spec : {M : Type 1} → statement M
 calorific-value-spec =
-    tie.close (tie.spec ideal-calorific-value-requires real-requires new-requires returns)
+    tie.close (tie.spec (λ c κs. search needs) real-requires new-requires (λ c. cc))

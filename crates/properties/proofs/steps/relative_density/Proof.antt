@@ -7,9 +7,6 @@ use Rattle.properties.proofs.StepBounds.{ideal-relative-high, step-high
 use Rattle.properties.proofs.steps.relative_density.Statement.{statement}
 use Rattle.properties.proofs.steps.relative_density.Tie as tie
 
-ideal-relative-density-requires : tie.Need-ideal-relative-density-requires
-ideal-relative-density-requires c κs = search needs
-
 real-requires : tie.Need-real-requires
 real-requires c κs =
     let b = c .before in
@@ -20,9 +17,6 @@ new-requires c κs =
     let b = c .before .before in
     step-high idealRelativeHigh relativeBound (c .before .ideal-relative-density .ensures) (ideal-relative-high (b .args .m) (b .args .air) (b .pre .0) (b .pre .1)) (b .pre .2) (c .real .ensures) (omega arith)
 
-returns : tie.Need-returns
-returns c = cc
-
 pub relative-density-spec : {M : Type 1} → statement M
 relative-density-spec =
-    tie.close (tie.spec ideal-relative-density-requires real-requires new-requires returns)
+    tie.close (tie.spec (λ c κs. search needs) real-requires new-requires (λ c. cc))

@@ -58,29 +58,8 @@ module _ (at : tie.At-loop Inv-loop μ-loop) where
   metering-known : placed .metering-place .result < 3
   metering-known = rw metering-is (metering-place (meteringIn (bs start)))
 
-shared-slice-read-combustion-place : tie.Need-shared-slice-read-combustion-place Inv-loop μ-loop
-shared-slice-read-combustion-place c = omega (arith, headed (c .before .before) .long)
-
-combustion-place-requires : tie.Need-combustion-place-requires Inv-loop μ-loop
-combustion-place-requires c κs = tt
-
-shared-slice-read-metering-place : tie.Need-shared-slice-read-metering-place Inv-loop μ-loop
-shared-slice-read-metering-place c = omega (arith, headed (c .before .before .before .before) .long)
-
-metering-place-requires : tie.Need-metering-place-requires Inv-loop μ-loop
-metering-place-requires c κs = tt
-
 shared-slice-read-n : tie.Need-shared-slice-read-n Inv-loop μ-loop
 shared-slice-read-n c = omega (arith, headed (c .before .before .before .before .before .before) .long)
-
-cast-n : tie.Need-cast-n Inv-loop μ-loop
-cast-n c = omega (arith, c .shared-slice-known4 .given 7)
-
-no-sums-requires : tie.Need-no-sums-requires Inv-loop μ-loop
-no-sums-requires c κs = tt
-
-loop-holds : tie.Need-loop-holds Inv-loop μ-loop
-loop-holds c = rw (c .no-sums .ensures) (no-sums _ _ _ _)
 
 line-in-requires : tie.Need-line-in-requires Inv-loop μ-loop
 line-in-requires c κs = let s = start (c .before) in (accepted-clear (bs s) (s .pre), omega arith)
@@ -98,9 +77,6 @@ add-to-sums-requires c κs =
 
 add-i : tie.Need-add-i Inv-loop μ-loop
 add-i c = omega (arith, headed (start (c .before .before .before .before)) .entries .few)
-
-loop-less : tie.Need-loop-less Inv-loop μ-loop
-loop-less c = omega arith
 
 loop-again : tie.Need-loop-again Inv-loop μ-loop
 loop-again c =
@@ -132,18 +108,18 @@ sums-of-spec =
     (tie.spec
     Inv-loop
     μ-loop
-    shared-slice-read-combustion-place
-    combustion-place-requires
-    shared-slice-read-metering-place
-    metering-place-requires
+    (λ c. omega (arith, headed (c .before .before) .long))
+    (λ c κs. tt)
+    (λ c. omega (arith, headed (c .before .before .before .before) .long))
+    (λ c κs. tt)
     shared-slice-read-n
-    cast-n
-    no-sums-requires
-    loop-holds
+    (λ c. omega (arith, c .shared-slice-known4 .given 7))
+    (λ c κs. tt)
+    (λ c. rw (c .no-sums .ensures) (no-sums _ _ _ _))
     line-in-requires
     fraction-in-requires
     add-to-sums-requires
     add-i
-    loop-less
+    (λ c. omega arith)
     loop-again
     returns)
