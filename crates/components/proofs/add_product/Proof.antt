@@ -22,12 +22,6 @@ module _ (c : tie.Start) where
   whole =
       fits64 _ (omega (arith, natAbs-add (c .args .sum) (pos (c .args .x) *ℤ c .args .n), natAbs-mul (c .args .x) (c .args .n)))
 
-add-result : tie.Need-add-result
-add-result c = rw (x-is c, wider (c .args .n) (c .fits .n), toZ-ofZ (product c), toZ-ofZ (c .fits .sum)) (whole c)
-
-returns : tie.Need-returns
-returns c = rw (x-is c, wider (c .args .n) (c .fits .n), toZ-ofZ (product c), toZ-ofZ (c .fits .sum), toZ-ofZ (whole c))
-
 pub add-product-spec : {M : Type 1} → statement M
 add-product-spec =
     tie.close
@@ -35,5 +29,5 @@ add-product-spec =
     (λ c. search needs)
     (λ c. widens (c .args .n) (c .fits .n))
     (λ c. rw (x-is c, wider (c .args .n) (c .fits .n)) (product c))
-    add-result
-    returns)
+    (λ c. rw (x-is c, wider (c .args .n) (c .fits .n), toZ-ofZ (product c), toZ-ofZ (c .fits .sum)) (whole c))
+    (λ c. rw (x-is c, wider (c .args .n) (c .fits .n), toZ-ofZ (product c), toZ-ofZ (c .fits .sum), toZ-ofZ (whole c))))

@@ -45,9 +45,6 @@ module _ (c : tie.After-struct-told) where
       let e = c .before .before .sums-of .ensures .1 .1 .1 in
       toZ-ofZ (fits64 _ (rw e (omega (arith, summation-high gas good)))) ∙ e
 
-shared-slice-read-metering : tie.Need-shared-slice-read-metering
-shared-slice-read-metering c = let s = c .before .before in omega (arith, accepted-head (s .args .bytes .now) (s .pre) .long)
-
 -- A and Z
 module _ (c : tie.After-compression-factor) where
   abbrev sums : tie.After-sums-of
@@ -122,14 +119,11 @@ module _ (c : tie.After-wobbe-index) where
   unfolding W r
   W-is = stepped-index (c .wobbe-index .ensures) (Hs-is (c .before)) (d-is (c .before))
 
-returns : tie.Need-returns
-returns c = together _ _ (Z-is (z c)) (Hs-is (c .before)) (Hi-is c) (rho-is c) (d-is (c .before)) (W-is c)
-
 pub calculate-spec : {M : Type 1} → statement M
 calculate-spec =
     tie.close
     (tie.spec
-    shared-slice-read-metering
+    (λ c. let s = c .before .before in omega (arith, accepted-head (s .args .bytes .now) (s .pre) .long))
     (λ c κs. search needs)
     (λ c κs. search needs)
     (λ c κs. rw (summation-is c) (summation-high (gas c) (good c)))
@@ -138,4 +132,4 @@ calculate-spec =
     density-requires
     relative-density-requires
     wobbe-index-requires
-    returns)
+    (λ c. together _ _ (Z-is (z c)) (Hs-is (c .before)) (Hi-is c) (rho-is c) (d-is (c .before)) (W-is c)))

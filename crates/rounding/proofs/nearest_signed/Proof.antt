@@ -16,12 +16,6 @@ use Rattle.rounding.proofs.nearest_signed.Tie as tie
 size : (n : ℤ) (q : ℕ) → (0 < q) × (natAbs n < 2 ^ 63) → natAbs (nearZ n q) < 2 ^ 63
 size n q (h, small) = omega (arith, at-most {b = natAbs n} (near-z-half n q h) (le-mul-of-pos-right (natAbs n) h))
 
-sub-nearest-below-zero : tie.Need-sub-nearest-below-zero
-sub-nearest-below-zero c = opposite-fits _ (c .before .fits .n) (c .before .pre .1) (c .if1 .taken)
-
-cast-nearest-below-zero : tie.Need-cast-nearest-below-zero
-cast-nearest-below-zero c = cast-pos _ _ (opposite-is _ (c .before .fits .n) (c .before .pre .1) (c .if1 .taken)) (c .before .pre .1)
-
 below : (c : tie.After-nearest-below-zero) → negℤ (pos (c .nearest-below-zero .result)) ≡ nearZ (c .before .before .args .n) (c .before .before .args .q)
 below c =
     let s = c .before .before in
@@ -35,9 +29,6 @@ below-size c = rw (← below c, natAbs-neg) at (size (c .before .before .args .n
 
 sub-result : tie.Need-sub-result
 sub-result c = minus-fits _ (below-size c)
-
-cast-nearest : tie.Need-cast-nearest
-cast-nearest c = cast-pos _ _ (value-is _ (c .before .fits .n) (c .before .pre .1) (c .if1 .left)) (c .before .pre .1)
 
 above : (c : tie.After-nearest) → pos (c .nearest .result) ≡ nearZ (c .before .before .args .n) (c .before .before .args .q)
 above c =
@@ -55,12 +46,12 @@ pub nearest-signed-spec : {M : Type 1} → statement M
 nearest-signed-spec =
     tie.close
     (tie.spec
-    sub-nearest-below-zero
-    cast-nearest-below-zero
+    (λ c. opposite-fits _ (c .before .fits .n) (c .before .pre .1) (c .if1 .taken))
+    (λ c. cast-pos _ _ (opposite-is _ (c .before .fits .n) (c .before .pre .1) (c .if1 .taken)) (c .before .pre .1))
     (λ c κs. search needs)
     (λ c. fits64 _ (below-size c))
     sub-result
-    cast-nearest
+    (λ c. cast-pos _ _ (value-is _ (c .before .fits .n) (c .before .pre .1) (c .if1 .left)) (c .before .pre .1))
     (λ c κs. search needs)
     (λ c. fits64 _ (above-size c))
     (λ c. toZ-ofZ (sub-result c) ∙ minus-is _ (below-size c) ∙ below c)

@@ -25,9 +25,6 @@ value-high c =
     let close = calorific-near (1000000 * c .before .number .result) (divisor (temperature (getD meterings (c .before .before .args .column / 2) 0))) (omega arith) in
     omega (arith, c .ideal-calorific-value .ensures, near.at-most {b = 500000000} close (omega (arith, heat-high (c .before))))
 
-number-requires : tie.Need-number-requires
-number-requires c κs = (c .pre .0, c .pre .1, omega (arith, superior-high (c .args .column / 2) (omega arith)))
-
 mul-nearest : tie.Need-mul-nearest
 mul-nearest c =
     let high : c .scale .result ≤ 1000 = omega (arith, c .scale .ensures, scale-high 5 (c .before .before .before .args .line)) in
@@ -43,7 +40,7 @@ per-cubic-metre-spec =
     (λ c. search needs)
     (λ c. search needs)
     (λ c. record { fits = omega (arith, superior-high (c .args .column / 2) (omega arith)) })
-    number-requires
+    (λ c κs. (c .pre .0, c .pre .1, omega (arith, superior-high (c .args .column / 2) (omega arith))))
     (λ c. product-fits _ _ (omega arith) (c .number .ensures))
     (λ c. search needs)
     (λ c κs. omega (arith, heat-high c))

@@ -27,12 +27,6 @@ module _ (c : tie.After-nearest-signed) where
       → r ≡ natAbs (tenth (c .before .args .s)) * natAbs (tenth (c .before .args .s))
   square-is r e = e ∙ ap (λ (z : ℤ). natAbs z * natAbs z) value
 
-sub-nearest : tie.Need-sub-nearest
-sub-nearest c = omega (arith, square-is (c .before) _ (c .square .ensures), mul-le-mul (small (c .before)) (small (c .before)))
-
-new-requires : tie.Need-new-requires
-new-requires c κs = omega (arith, c .nearest .ensures, compression-high (c .before .square .result))
-
 returns : tie.Need-returns
 returns c =
     let q = c .before .before in
@@ -44,7 +38,7 @@ compression-factor-spec =
     (tie.spec
     (λ c κs. (omega arith, rw (toZ-ofZ (c .fits .s)) (omega (arith, c .pre))))
     (λ c κs. rw (value c) (omega (arith, small c)))
-    sub-nearest
+    (λ c. omega (arith, square-is (c .before) _ (c .square .ensures), mul-le-mul (small (c .before)) (small (c .before))))
     (λ c κs. search needs)
-    new-requires
+    (λ c κs. omega (arith, c .nearest .ensures, compression-high (c .before .square .result)))
     returns)

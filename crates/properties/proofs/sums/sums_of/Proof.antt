@@ -58,15 +58,6 @@ module _ (at : tie.At-loop Inv-loop μ-loop) where
   metering-known : placed .metering-place .result < 3
   metering-known = rw metering-is (metering-place (meteringIn (bs start)))
 
-shared-slice-read-n : tie.Need-shared-slice-read-n Inv-loop μ-loop
-shared-slice-read-n c = omega (arith, headed (c .before .before .before .before .before .before) .long)
-
-line-in-requires : tie.Need-line-in-requires Inv-loop μ-loop
-line-in-requires c κs = let s = start (c .before) in (accepted-clear (bs s) (s .pre), omega arith)
-
-fraction-in-requires : tie.Need-fraction-in-requires Inv-loop μ-loop
-fraction-in-requires c κs = let s = start (c .before .before) in (accepted-clear (bs s) (s .pre), omega arith)
-
 add-to-sums-requires : tie.Need-add-to-sums-requires Inv-loop μ-loop
 add-to-sums-requires c κs =
     let i = c .before in
@@ -74,9 +65,6 @@ add-to-sums-requires c κs =
     let s = start at in
     let l = good s .composition .lines (at .loop .i) (omega (arith, count s)) in
     ((rw (i .line-in .ensures) (l .0), rw (i .line-in .ensures) (l .1), combustion-known at, metering-known at), sums-small (at .loop .inv) (good s .composition))
-
-add-i : tie.Need-add-i Inv-loop μ-loop
-add-i c = omega (arith, headed (start (c .before .before .before .before)) .entries .few)
 
 loop-again : tie.Need-loop-again Inv-loop μ-loop
 loop-again c =
@@ -112,14 +100,14 @@ sums-of-spec =
     (λ c κs. tt)
     (λ c. omega (arith, headed (c .before .before .before .before) .long))
     (λ c κs. tt)
-    shared-slice-read-n
+    (λ c. omega (arith, headed (c .before .before .before .before .before .before) .long))
     (λ c. omega (arith, c .shared-slice-known4 .given 7))
     (λ c κs. tt)
     (λ c. rw (c .no-sums .ensures) (no-sums _ _ _ _))
-    line-in-requires
-    fraction-in-requires
+    (λ c κs. let s = start (c .before) in (accepted-clear (bs s) (s .pre), omega arith))
+    (λ c κs. let s = start (c .before .before) in (accepted-clear (bs s) (s .pre), omega arith))
     add-to-sums-requires
-    add-i
+    (λ c. omega (arith, headed (start (c .before .before .before .before)) .entries .few))
     (λ c. omega arith)
     loop-again
     returns)
