@@ -4,7 +4,7 @@ use mathlib.Core.List.{List, [], _∷_}
 use Prim.Native.Nat.{ℕ}
 use lib.IntN.{pos, negsuc, _*ℤ_, _-ℤ_}
 use Rattle.components.specs.Table.{componentTable, entryOf, molarMass, summation, superior, inferior}
-use Rattle.components.specs.Rule.{hydrogenAtoms, atomsOf, water}
+use Rattle.components.specs.Rule.{hydrogenAtoms, atomsOf, waterHeat}
 use Rattle.components.specs.Composition.{sumOf}
 
 -- K1 of document 01, the gas of annex D
@@ -29,6 +29,6 @@ hydrogen = refl
 
 k10 :
     (pos 2 *ℤ (entryOf 23 (superior 0) -ℤ entryOf 23 (inferior 0)) ≡ pos 352200)
-    × (pos (atomsOf 23) *ℤ water 0 ≡ pos 352128)
+    × (pos (atomsOf 23) *ℤ waterHeat 0 ≡ pos 352128)
 unfolding componentTable hydrogenAtoms
 k10 = (refl, refl)

@@ -1,5 +1,5 @@
 pub mod Every
-pub mod RuleLaws
+mod RuleLaws
 pub mod Entries
 pub mod SignedSums
 pub mod SumLaws

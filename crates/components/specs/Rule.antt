@@ -29,8 +29,8 @@ abbrev pub atomsOf : ℕ → ℕ
 atomsOf l = getD hydrogenAtoms (l - 1) 0
 
 -- w of document 01: the superior h of water, line 42, at the t-th temperature
-abbrev pub water : ℕ → ℤ
-water t = entryOf 42 (superior t)
+abbrev pub waterHeat : ℕ → ℤ
+waterHeat t = entryOf 42 (superior t)
 
 -- 20, or 200 for the lines that are printed with one decimal
 unfoldable pub allowance : ℕ → ℕ
@@ -38,7 +38,7 @@ allowance l = cond (eqb l 21 || eqb l 22 || eqb l 23 || eqb l 45) 200 20
 
 -- 2 × (superior − inferior) − a × w, all at the t-th temperature
 abbrev pub excess : ℕ → ℕ → ℤ
-excess l t = pos 2 *ℤ (entryOf l (superior t) -ℤ entryOf l (inferior t)) -ℤ pos (atomsOf l) *ℤ water t
+excess l t = pos 2 *ℤ (entryOf l (superior t) -ℤ entryOf l (inferior t)) -ℤ pos (atomsOf l) *ℤ waterHeat t
 
 -- the rule over the whole table: it holds of every line l from 1 to 55
 pub record Rule : Type 0 where

@@ -2,7 +2,7 @@
 //
 // It reads until the input ends, and never more than 284 bytes, one more than the longest record has: 8 + 5 × 55 = 283. They decide
 // what a longer input gives, whatever follows: conditions 2 to 5 look at the first 8 bytes, and a length above 283 breaks condition 6
-// for every n up to 55. This is `FirstBytesDecide` in crates/properties/specs/Chain.antt.
+// for every n up to 55. This is `FirstBytesDecideProperties` in crates/properties/specs/Chain.antt.
 ghost use Rattle.io.specs.Counts.{Counts};
 use libc::STDIN_FILENO;
 

@@ -12,7 +12,7 @@ use mir.Syntax.{w64}
 use mir.Val.{Fits}
 use Rattle.components.specs.Table.{componentTable, molarMass}
 use Rattle.components.proofs.Every.{every, at}
-use Rattle.components.proofs.Entries.{entry-below}
+use Rattle.components.proofs.Entries.{largest, entry-below}
 use Rattle.printed_tables.specs.Figures.{numberOf, scaleOf}
 
 module _ (f : ℕ → ℕ) (bound n : ℕ) where
@@ -28,8 +28,8 @@ unfolding componentTable
 mass-above l lo hi = at-least (λ (k : ℕ). natAbs (getD (getD componentTable k []) molarMass (pos 0))) 20159 55 tt (l - 1) (omega arith)
 
 -- a number of a line times at most a million fits 64 bits
-pub product-high : (l c : ℕ) {x n : ℕ} → x ≤ 1000000 → n ≡ numberOf l c → x * n ≤ 1000000 * 6842690
-product-high l c {x} {n} h e = mul-le-mul {m₂ = 6842690} h (omega (arith, e, entry-below l c))
+pub product-high : (l c : ℕ) {x n : ℕ} → x ≤ 1000000 → n ≡ numberOf l c → x * n ≤ 1000000 * largest
+product-high l c {x} {n} h e = mul-le-mul {m₂ = largest} h (omega (arith, e, entry-below l c))
 
 pub product-fits : (l c : ℕ) {x n : ℕ} → x ≤ 1000000 → n ≡ numberOf l c → Fits w64 (x * n)
 product-fits l c h e = record { fits = omega (arith, product-high l c h e) }

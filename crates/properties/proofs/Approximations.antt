@@ -5,6 +5,8 @@ use native.Mathlib.Omega.{arith}
 use Rattle.rounding.specs.Near.{near}
 use Rattle.rounding.specs.Fraction.{Within, _over_, half, whole}
 use Rattle.rounding.proofs.NearLaws.{near-half, at-most, at-least}
+use Rattle.components.specs.Bounds.{summationHigh}
+use Rattle.properties.specs.Bounds.{compressionLow, idealHigh}
 use Rattle.properties.specs.Unrounded.{tenth, compression, real}
 
 -- The quotient of two approximations: I is N/D to e hundredths, Z is P/R to f hundredths, and Q is I × K / Z rounded. Then Q is within
@@ -35,12 +37,12 @@ quotient e f K N D I P R Z Q hI hZ hQ pos side =
     }
 
 -- The squares of the tenth s and of X / (10 U) are close.
-square-up : (U X s : ℕ) → X ≤ 5250000000 * U → 10 * s ≤ 5250000006 → X ≤ 10 * (s * U) + 6 * U
+square-up : (U X s : ℕ) → X ≤ summationHigh * U → 10 * s ≤ summationHigh + 6 → X ≤ 10 * (s * U) + 6 * U
     → X * X ≤ 100 * (s * s * (U * U)) + 64 * 10 ^ 9 * (U * U)
 square-up U X s big small hi =
     omega (arith, mul-le-mul-left X hi, mul-le-mul-left (10 * (s * U)) hi, mul-le-mul-right (U * U) small, mul-le-mul-left U big)
 
-square-down : (U X s : ℕ) → X ≤ 5250000000 * U → 10 * s ≤ 5250000006 → 10 * (s * U) ≤ X + 6 * U
+square-down : (U X s : ℕ) → X ≤ summationHigh * U → 10 * s ≤ summationHigh + 6 → 10 * (s * U) ≤ X + 6 * U
     → 100 * (s * s * (U * U)) ≤ X * X + 64 * 10 ^ 9 * (U * U)
 square-down U X s big small lo =
     omega (arith, mul-le-mul-left X lo, mul-le-mul-left (10 * (s * U)) lo, mul-le-mul-right (U * U) small, mul-le-mul-left U big)
@@ -53,15 +55,15 @@ sum-above : (z q x u : ℕ) → 2 * 10 ^ 18 * u ≤ 2 * (10 ^ 9 * z) + 2 * q + 1
     → 100 * (10 ^ 20 * u - x) ≤ 100 * (10 ^ 11 * z) + 114 * (10 ^ 11 * u)
 sum-above z q x u h k l = omega arith
 
--- The compression factor. The exact sum is X / U, at most 5.25 × 10^9 in its unit of 10^-10; s is a tenth of it, to 6 tenths.
-module _ (U X s : ℕ) (big : X ≤ 5250000000 * U) (near-s : Within (6 over 10) s (tenth (X over U))) where
+-- The compression factor. The exact sum is X / U, at most its bound; s is a tenth of it, to 6 tenths.
+module _ (U X s : ℕ) (big : X ≤ summationHigh * U) (near-s : Within (6 over 10) s (tenth (X over U))) where
   U-pos : 0 < U
   U-pos = omega (arith, near-s .proper .0)
 
-  small : 10 * s ≤ 5250000006
-  small = le-of-mul-le-mul-right {m = 10 * s} {n = 5250000006} {k = U} (omega (arith, near-s .below)) U-pos
+  small : 10 * s ≤ summationHigh + 6
+  small = le-of-mul-le-mul-right {m = 10 * s} {n = summationHigh + 6} {k = U} (omega (arith, near-s .below)) U-pos
 
-  square : s * s ≤ 275625000630000000
+  square : 100 * (s * s) ≤ (summationHigh + 6) * (summationHigh + 6)
   square = omega (arith, mul-le-mul small small)
 
   abbrev z : ℕ
@@ -70,7 +72,7 @@ module _ (U X s : ℕ) (big : X ≤ 5250000000 * U) (near-s : Within (6 over 10)
   near-z : Within half z ((10 ^ 18 - s * s) over 10 ^ 9)
   near-z = near-half (10 ^ 18 - s * s) (10 ^ 9) (omega arith)
 
-  pub z-low : 724000000 ≤ z
+  pub z-low : compressionLow ≤ z
   z-low = at-least near-z (omega (arith, square))
 
   -- without the difference, so that it can be multiplied
@@ -80,11 +82,11 @@ module _ (U X s : ℕ) (big : X ≤ 5250000000 * U) (near-s : Within (6 over 10)
   above-z : 2 * 10 ^ 18 ≤ 2 * (10 ^ 9 * z) + 2 * (s * s) + 10 ^ 9
   above-z = omega (arith, square, near-z .above)
 
-  fits : X * X ≤ 27562500000000000000 * (U * U)
+  fits : X * X ≤ summationHigh * summationHigh * (U * U)
   fits = omega (arith, mul-le-mul big big)
 
   -- the exact compression factor is above 0
-  pub exact-pos : 0 < compression (tenth (X over U)) .num
+  exact-pos : 0 < compression (tenth (X over U)) .num
   exact-pos = omega (arith, fits, mul-pos U-pos U-pos)
 
   pub z-within : Within (114 over 100) z (compression (tenth (X over U)))
@@ -97,8 +99,8 @@ module _ (U X s : ℕ) (big : X ≤ 5250000000 * U) (near-s : Within (6 over 10)
         above = omega (arith, sum-above (z * (U * U)) (s * s * (U * U)) (X * X) (U * U) (omega (arith, mul-le-mul-right (U * U) above-z)) (square-down U X s big small lo) (omega (arith, fits)));
       }
 
-  -- A real quantity: Q is the ideal I over the compression factor. I is N/D to 51 hundredths, and at most 365,000,000.
-  pub real-within : (N D I : ℕ) → Within (51 over 100) I (N over D) → I ≤ 365000000
+  -- A real quantity: Q is the ideal I over the compression factor. I is N/D to 51 hundredths, and at most its bound.
+  pub real-within : (N D I : ℕ) → Within (51 over 100) I (N over D) → I ≤ idealHigh
       → Within (whole 2) (near (I * 10 ^ 9) z) (real (N over D) (compression (tenth (X over U))))
   real-within N D I hI most =
       let hQ = near-half (I * 10 ^ 9) z (omega (arith, z-low)) in

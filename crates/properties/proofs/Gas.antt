@@ -12,7 +12,7 @@ use Rattle.rounding.proofs.NearLaws.{near-z-half}
 use Rattle.rounding.proofs.FractionLaws.{within-wider, within-one}
 use Rattle.components.specs.Table.{superior, inferior, Heat, Unsigned}
 use Rattle.components.specs.Composition.{sumOf, overLines}
-use Rattle.components.specs.Bounds.{Bounds}
+use Rattle.components.specs.Bounds.{heatLow, heatHigh, massLow, massHigh, summationHigh, Bounds}
 use Rattle.components.proofs.SumLaws.{sum-is-sizes}
 use Rattle.components.proofs.AllLines.{sums-run-over-all-lines}
 use Rattle.components.proofs.Bounds.{methane-bounds}
@@ -22,14 +22,15 @@ use Rattle.records.specs.Accepted.{Acceptable}
 use Rattle.records.proofs.Accepted.{accepted-is-acceptable}
 use Rattle.properties.specs.Chain.{combustionPlace, T, D, HmSuperior, HmInferior, M, S, S9, Z, Hs, Hi, rho, A, G, d, r, W, idealCalorific, idealDensity, real, sixOf}
 use Rattle.properties.specs.Unrounded as unrounded
-use Rattle.properties.specs.Quantities.{Bounded}
+use Rattle.properties.specs.Quantities.{calorificBound, densityBound, relativeBound, wobbeBound, Bounded}
+use Rattle.properties.specs.Bounds.{divisorLow, divisorHigh, airLow, airHigh, compressionLow, calorificLow, idealCalorificHigh, calorificHigh, relativeLow, idealRelativeHigh, idealHigh}
 use Rattle.properties.specs.Distances.{Indexed, Distances}
 use Rattle.properties.specs.Accepted.{Amounts, Squares, EveryAcceptedRecord}
 use Rattle.properties.proofs.Approximations.{z-low, z-within, real-within}
 use Rattle.properties.proofs.Index.{indexed}
-use Rattle.properties.proofs.StepBounds.{tenth-high, compression-high, temperature-low, temperature-high, air-low, air-high, metering-place, combustion-place, calorific-near, ideal-calorific-high, ideal-calorific-low, density-near, ideal-density-high, relative-near, ideal-relative-high, ideal-relative-low, real-high, real-low, root-of, root-low, wobbe-near, wobbe-high, wobbe-low}
+use Rattle.properties.proofs.StepBounds.{tenth-high, compression-high, divisor-low, temperature-high, air-low, air-high, metering-place, combustion-place, calorific-near, ideal-calorific-high, ideal-calorific-low, density-near, ideal-density-high, relative-near, ideal-relative-high, ideal-relative-low, real-high, real-low, root-of, root-low, wobbe-near, wobbe-high, wobbe-low}
 
-pub heats : (c : ℕ) → Heat (superior (combustionPlace c)) × Heat (inferior (combustionPlace c))
+heats : (c : ℕ) → Heat (superior (combustionPlace c)) × Heat (inferior (combustionPlace c))
 heats c = let h = combustion-place c in ((omega arith, omega arith), (omega arith, omega arith))
 
 module _ (k : Contents) (a : Acceptable k) where
@@ -54,44 +55,44 @@ module _ (k : Contents) (a : Acceptable k) where
   in-bounds : Bounds (k .lines) (k .fractions)
   in-bounds = methane-bounds (k .lines) (k .fractions) (a .composition) (a .share)
 
-  pub superior-low : 100000000000 ≤ HmSuperior k
+  superior-low : heatLow ≤ HmSuperior k
   unfolding HmSuperior
   superior-low = rw (over-entries _) (in-bounds .heat-low _ (heats (k .combustion) .0))
 
-  pub superior-high : HmSuperior k ≤ 3900000000000
+  pub superior-high : HmSuperior k ≤ heatHigh
   unfolding HmSuperior
   superior-high = rw (over-entries _) (in-bounds .heat-high _ (heats (k .combustion) .0))
 
-  pub inferior-high : HmInferior k ≤ 3900000000000
+  pub inferior-high : HmInferior k ≤ heatHigh
   unfolding HmInferior
   inferior-high = rw (over-entries _) (in-bounds .heat-high _ (heats (k .combustion) .1))
 
-  pub mass-low : 80000000000 ≤ M k
+  pub mass-low : massLow ≤ M k
   unfolding M
   mass-low = rw (over-entries _) (in-bounds .mass-low)
 
-  pub mass-high : M k ≤ 800000000000
+  pub mass-high : M k ≤ massHigh
   unfolding M
   mass-high = rw (over-entries _) (in-bounds .mass-high)
 
-  pub summation-high : natAbs (S k) ≤ 5250000000
+  pub summation-high : natAbs (S k) ≤ summationHigh
   unfolding S
   summation-high = rw (over-entries _) (in-bounds .summation-high _ (metering-place (k .metering)))
 
   -- T, D and A
-  pub D-low : 831451 * 27315 ≤ D k
+  D-low : divisorLow ≤ D k
   unfolding D T
-  D-low = omega (arith, temperature-low (k .metering))
+  D-low = divisor-low (k .metering)
 
-  D-high : D k ≤ 831451 * 29315
+  D-high : D k ≤ divisorHigh
   unfolding D T
   D-high = omega (arith, temperature-high (k .metering))
 
-  A-low : 99900 ≤ A k
+  A-low : airLow ≤ A k
   unfolding A
   A-low = air-low (k .metering)
 
-  pub A-high : A k ≤ 100000
+  pub A-high : A k ≤ airHigh
   unfolding A
   A-high = air-high (k .metering)
 
@@ -106,7 +107,7 @@ module _ (k : Contents) (a : Acceptable k) where
   unfolding S9
   s9-within = within-wider half (6 over 10) _ _ (omega arith) (omega arith) (near-z-half (S k) 10 (omega arith))
 
-  pub Z-low : 724000000 ≤ Z k
+  pub Z-low : compressionLow ≤ Z k
   unfolding Z
   Z-low = z-low 1 (natAbs (S k)) (natAbs (S9 k)) (omega (arith, summation-high)) s9-within
 
@@ -119,21 +120,21 @@ module _ (k : Contents) (a : Acceptable k) where
   Z-within = within-wider (114 over 100) (whole 2) _ _ (omega arith) (omega arith) (z-within 1 (natAbs (S k)) (natAbs (S9 k)) (omega (arith, summation-high)) s9-within)
 
   -- a real quantity is within 2 of its unit: I is its ideal value, N / D the exact one
-  real-of : (N D I : ℕ) → Within half I (N over D) → I ≤ 365000000 → Within (whole 2) (real I (Z k)) (unrounded.real (N over (1 * D)) (unrounded.Z k))
+  real-of : (N D I : ℕ) → Within half I (N over D) → I ≤ idealHigh → Within (whole 2) (real I (Z k)) (unrounded.real (N over (1 * D)) (unrounded.Z k))
   unfolding Z
   real-of N D I h l =
       real-within 1 (natAbs (S k)) (natAbs (S9 k)) (omega (arith, summation-high)) s9-within N (1 * D) I (within-wider half (51 over 100) _ _ (omega arith) (omega arith) (within-one h)) l
 
-  superior-ideal : idealCalorific (HmSuperior k) (D k) ≤ 175000000
+  superior-ideal : idealCalorific (HmSuperior k) (D k) ≤ idealCalorificHigh
   superior-ideal = ideal-calorific-high (HmSuperior k) (D k) superior-high D-low
 
-  inferior-ideal : idealCalorific (HmInferior k) (D k) ≤ 175000000
+  inferior-ideal : idealCalorific (HmInferior k) (D k) ≤ idealCalorificHigh
   inferior-ideal = ideal-calorific-high (HmInferior k) (D k) inferior-high D-low
 
-  mass-ideal : idealDensity (M k) (D k) ≤ 357000000
+  mass-ideal : idealDensity (M k) (D k) ≤ idealHigh
   mass-ideal = ideal-density-high (M k) (D k) mass-high D-low
 
-  relative-ideal : G k ≤ 277000000
+  relative-ideal : G k ≤ idealRelativeHigh
   unfolding G
   relative-ideal = ideal-relative-high (M k) (A k) mass-high A-high
 
@@ -147,38 +148,38 @@ module _ (k : Contents) (a : Acceptable k) where
 
   rho-within : Within (whole 2) (rho k) (unrounded.rho k)
   unfolding rho
-  rho-within = real-of _ _ _ (density-near (M k) (D k) (omega (arith, D-low))) (omega (arith, mass-ideal))
+  rho-within = real-of _ _ _ (density-near (M k) (D k) (omega (arith, D-low))) mass-ideal
 
   d-within : Within (whole 2) (d k) (unrounded.d k)
   unfolding d G
   d-within = real-of _ _ _ (relative-near (M k) (A k)) (omega (arith, relative-ideal))
 
   -- bounds of the properties
-  pub Hs-high : Hs k ≤ 242000000
+  pub Hs-high : Hs k ≤ calorificHigh
   unfolding Hs
-  Hs-high = real-high _ (Z k) Z-low 242000000 (omega (arith, superior-ideal))
+  Hs-high = real-high _ (Z k) Z-low calorificHigh (omega (arith, superior-ideal))
 
-  Hs-low : 4000000 ≤ Hs k
+  Hs-low : calorificLow ≤ Hs k
   unfolding Hs
-  Hs-low = real-low _ (Z k) Z-low Z-high 4000000 (ideal-calorific-low (HmSuperior k) (D k) superior-low (omega (arith, D-low)) D-high)
+  Hs-low = real-low _ (Z k) Z-low Z-high calorificLow (ideal-calorific-low (HmSuperior k) (D k) superior-low (omega (arith, D-low)) D-high)
 
-  Hi-high : Hi k ≤ 242000000
+  Hi-high : Hi k ≤ calorificBound
   unfolding Hi
-  Hi-high = real-high _ (Z k) Z-low 242000000 (omega (arith, inferior-ideal))
+  Hi-high = real-high _ (Z k) Z-low calorificBound (omega (arith, inferior-ideal))
 
-  rho-high : rho k ≤ 494000000
+  rho-high : rho k ≤ densityBound
   unfolding rho
-  rho-high = real-high _ (Z k) Z-low 494000000 (omega (arith, mass-ideal))
+  rho-high = real-high _ (Z k) Z-low densityBound (omega (arith, mass-ideal))
 
-  pub d-high : d k ≤ 385000000
+  pub d-high : d k ≤ relativeBound
   unfolding d
-  d-high = real-high _ (Z k) Z-low 385000000 (omega (arith, relative-ideal))
+  d-high = real-high _ (Z k) Z-low relativeBound (omega (arith, relative-ideal))
 
-  pub d-low : 27590000 ≤ d k
+  pub d-low : relativeLow ≤ d k
   unfolding d G
-  d-low = real-low _ (Z k) Z-low Z-high 27590000 (ideal-relative-low (M k) (A k) mass-low A-low)
+  d-low = real-low _ (Z k) Z-low Z-high relativeLow (ideal-relative-low (M k) (A k) mass-low A-low)
 
-  W-high : W k ≤ 461000000
+  W-high : W k ≤ wobbeBound
   unfolding W r
   W-high = wobbe-high (d k) d-low d-high (Hs k) Hs-high
 
@@ -195,10 +196,10 @@ module _ (k : Contents) (a : Acceptable k) where
       record {
         Z = Z-high;
         Hs = omega (arith, Hs-high);
-        Hi = omega (arith, Hi-high);
-        rho = omega (arith, rho-high);
-        d = omega (arith, d-high);
-        W = omega (arith, W-high);
+        Hi = Hi-high;
+        rho = rho-high;
+        d = d-high;
+        W = W-high;
       }
 
   pub distances : Distances k (sixOf k)

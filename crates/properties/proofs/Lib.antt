@@ -1,6 +1,6 @@
-pub mod Cases
-pub mod Approximations
-pub mod Index
+mod Cases
+mod Approximations
+mod Index
 pub mod StepBounds
 pub mod Gas
 pub mod Outcomes

@@ -7,7 +7,7 @@ use Rattle.records.specs.Format.{contentsIn}
 use Rattle.records.specs.Conditions.{recordOrder}
 use Rattle.records.proofs.OrderLaws.{mapped-decided, refuses, decided-accepted, decided-refused}
 use Rattle.records.proofs.FirstBytes as records
-use Rattle.properties.specs.Chain.{Six, sixOf, propertiesOf, FirstBytesDecide}
+use Rattle.properties.specs.Chain.{Six, sixOf, propertiesOf, FirstBytesDecideProperties}
 
 pub refused-properties : (bs : List ℕ) {n : ℕ} → n ≡ firstOf (recordOrder bs) → (n ≡ 0 → ⊥) → refused n ≡ propertiesOf bs
 refused-properties bs e h =
@@ -24,5 +24,5 @@ number-of-refused bs n e = decided-refused _ (sixOf (contentsIn bs)) n (sym (e �
 pub clear-of-accepted : (bs : List ℕ) (p : Six) → accepted p ≡ propertiesOf bs → (firstOf (recordOrder bs) ≡ 0) × (sixOf (contentsIn bs) ≡ p)
 clear-of-accepted bs p e = decided-accepted _ (sixOf (contentsIn bs)) p (sym (e ∙ mapped-decided sixOf (firstOf (recordOrder bs)) (contentsIn bs)))
 
-pub first-bytes-decide : FirstBytesDecide
+pub first-bytes-decide : FirstBytesDecideProperties
 first-bytes-decide bs = ap (mapped sixOf) (records.first-bytes-decide bs)

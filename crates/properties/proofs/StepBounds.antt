@@ -11,6 +11,9 @@ use Rattle.rounding.specs.Root.{Root}
 use Rattle.rounding.specs.Fraction.{Within, _over_, half}
 use Rattle.rounding.proofs.NearLaws.{near-half, near-z-half, at-most, at-least}
 use Rattle.rounding.proofs.RootLaws.{root-is, root-greatest, below-of-squares}
+use Rattle.components.specs.Bounds.{heatLow, heatHigh, massLow, massHigh, summationHigh}
+use Rattle.properties.specs.Bounds.{divisorLow, divisorHigh, airLow, airHigh, compressionLow, calorificLow, idealCalorificHigh, calorificHigh, relativeLow, idealRelativeHigh, idealHigh, rootLow}
+use Rattle.properties.specs.Quantities.{relativeBound, wobbeBound}
 use Rattle.properties.specs.Chain.{forMetering, temperature, divisor, meteringPlace, combustionPlace, airFactor, tenth, idealCalorific, idealDensity, idealRelative, real, rootOf, wobbe}
 
 -- what holds of three numbers holds of the one chosen
@@ -22,20 +25,20 @@ chosen P {x} {y} {z} hx hy hz m = go (eqb m 0) (eqb m 15)
     go false true = hy
     go false false = hz
 
-pub temperature-low : (m : ℕ) → 27315 ≤ temperature m
+temperature-low : (m : ℕ) → 27315 ≤ temperature m
 temperature-low = chosen (λ (n : ℕ). 27315 ≤ n) (omega arith) (omega arith) (omega arith)
 
-pub divisor-low : (m : ℕ) → 831451 * 27315 ≤ divisor (temperature m)
+pub divisor-low : (m : ℕ) → divisorLow ≤ divisor (temperature m)
 divisor-low m = omega (arith, temperature-low m)
 
 pub temperature-high : (m : ℕ) → temperature m ≤ 29315
 temperature-high = chosen (λ (n : ℕ). n ≤ 29315) (omega arith) (omega arith) (omega arith)
 
-pub air-low : (m : ℕ) → 99900 ≤ airFactor m
-air-low = chosen (λ (n : ℕ). 99900 ≤ n) (omega arith) (omega arith) (omega arith)
+pub air-low : (m : ℕ) → airLow ≤ airFactor m
+air-low = chosen (λ (n : ℕ). airLow ≤ n) (omega arith) (omega arith) (omega arith)
 
-pub air-high : (m : ℕ) → airFactor m ≤ 100000
-air-high = chosen (λ (n : ℕ). n ≤ 100000) (omega arith) (omega arith) (omega arith)
+pub air-high : (m : ℕ) → airFactor m ≤ airHigh
+air-high = chosen (λ (n : ℕ). n ≤ airHigh) (omega arith) (omega arith) (omega arith)
 
 pub metering-place : (m : ℕ) → meteringPlace m < 3
 metering-place = chosen (λ (n : ℕ). n < 3) (omega arith) (omega arith) (omega arith)
@@ -54,66 +57,66 @@ module _ (Hm D : ℕ) where
   pub calorific-near : 0 < D → Within half (idealCalorific Hm D) ((Hm * 1013250) over D)
   calorific-near h = near-half (Hm * 1013250) D h
 
-  pub ideal-calorific-high : Hm ≤ 3900000000000 → 831451 * 27315 ≤ D → idealCalorific Hm D ≤ 175000000
+  pub ideal-calorific-high : Hm ≤ heatHigh → divisorLow ≤ D → idealCalorific Hm D ≤ idealCalorificHigh
   ideal-calorific-high h l = at-most (calorific-near (omega arith)) (omega arith)
 
-  pub ideal-calorific-low : 100000000000 ≤ Hm → 0 < D → D ≤ 831451 * 29315 → 4000000 ≤ idealCalorific Hm D
+  pub ideal-calorific-low : heatLow ≤ Hm → 0 < D → D ≤ divisorHigh → calorificLow ≤ idealCalorific Hm D
   ideal-calorific-low h p l = at-least (calorific-near p) (omega arith)
 
 module _ (M : ℕ) where
   pub density-near : (D : ℕ) → 0 < D → Within half (idealDensity M D) ((M * 10132500) over D)
   density-near D h = near-half (M * 10132500) D h
 
-  pub ideal-density-high : (D : ℕ) → M ≤ 800000000000 → 831451 * 27315 ≤ D → idealDensity M D ≤ 357000000
+  pub ideal-density-high : (D : ℕ) → M ≤ massHigh → divisorLow ≤ D → idealDensity M D ≤ idealHigh
   ideal-density-high D h l = at-most (density-near D (omega arith)) (omega arith)
 
   pub relative-near : (A : ℕ) → Within half (idealRelative M A) ((M * A) over 289626000)
   relative-near A = near-half (M * A) 289626000 (omega arith)
 
-  pub ideal-relative-high : (A : ℕ) → M ≤ 800000000000 → A ≤ 100000 → idealRelative M A ≤ 277000000
+  pub ideal-relative-high : (A : ℕ) → M ≤ massHigh → A ≤ airHigh → idealRelative M A ≤ idealRelativeHigh
   ideal-relative-high A h l = at-most (relative-near A) (omega (arith, mul-le-mul h l))
 
-  pub ideal-relative-low : (A : ℕ) → 80000000000 ≤ M → 99900 ≤ A → 27590000 ≤ idealRelative M A
+  pub ideal-relative-low : (A : ℕ) → massLow ≤ M → airLow ≤ A → relativeLow ≤ idealRelative M A
   ideal-relative-low A h l = at-least (relative-near A) (omega (arith, mul-le-mul h l))
 
 -- S9 and Z
-pub tenth-high : (S : ℤ) → natAbs S ≤ 5250000000 → natAbs (tenth S) ≤ 525000000
+pub tenth-high : (S : ℤ) → natAbs S ≤ summationHigh → natAbs (tenth S) ≤ 10 ^ 9
 tenth-high S h = at-most (near-z-half S 10 (omega arith)) (omega arith)
 
 pub compression-high : (square : ℕ) → near (10 ^ 18 - square) (10 ^ 9) ≤ 10 ^ 9
 compression-high square = at-most (near-half (10 ^ 18 - square) (10 ^ 9) (omega arith)) (omega arith)
 
 -- real values
-module _ (ideal Z : ℕ) (low : 724000000 ≤ Z) where
+module _ (ideal Z : ℕ) (low : compressionLow ≤ Z) where
   real-near : Within half (real ideal Z) ((ideal * 10 ^ 9) over Z)
   real-near = near-half (ideal * 10 ^ 9) Z (omega arith)
 
-  pub real-high : (b : ℕ) → 1000 * ideal ≤ 724 * b → real ideal Z ≤ b
+  pub real-high : (b : ℕ) → 10 ^ 9 * ideal ≤ compressionLow * b → real ideal Z ≤ b
   real-high b h = at-most real-near (omega (arith, mul-le-mul-left b low))
 
   pub real-low : Z ≤ 10 ^ 9 → (b : ℕ) → b ≤ ideal → b ≤ real ideal Z
   real-low high b h = at-least real-near (omega (arith, mul-le-mul-left b high))
 
 -- what a step has made of an ideal value that is at most `most` is at most b
-pub step-high : (most b : ℕ) {i ideal Z v : ℕ} → i ≡ ideal → ideal ≤ most → 724000000 ≤ Z → v ≡ real i Z → 1000 * most ≤ 724 * b → v ≤ b
+pub step-high : (most b : ℕ) {i ideal Z v : ℕ} → i ≡ ideal → ideal ≤ most → compressionLow ≤ Z → v ≡ real i Z → 10 ^ 9 * most ≤ compressionLow * b → v ≤ b
 step-high most b {i} {ideal} {Z} e h low is fits = omega (arith, is, real-high i Z low b (omega arith))
 
 -- the index
-module _ (d : ℕ) (d-low : 27590000 ≤ d) (d-high : d ≤ 385000000) where
+module _ (d : ℕ) (d-low : relativeLow ≤ d) (d-high : d ≤ relativeBound) where
   pub root-of : Root (rootOf d) (d * 10 ^ 10)
   root-of = root-is (d * 10 ^ 10) (omega arith)
 
-  pub root-low : 525000000 ≤ rootOf d
-  root-low = root-greatest root-of 525000000 (omega arith)
+  pub root-low : rootLow ≤ rootOf d
+  root-low = root-greatest root-of rootLow (omega arith)
 
-  pub root-high : rootOf d < 3000000000
-  root-high = below-of-squares _ 3000000000 (d * 10 ^ 10) (root-of .square) (omega arith)
+  root-high : rootOf d < 2 ^ 32
+  root-high = below-of-squares _ (2 ^ 32) (d * 10 ^ 10) (root-of .square) (omega arith)
 
   pub wobbe-near : (Hs : ℕ) → Within half (wobbe Hs (rootOf d)) ((Hs * 10 ^ 9) over rootOf d)
   wobbe-near Hs = near-half (Hs * 10 ^ 9) (rootOf d) (omega (arith, root-low))
 
-  pub wobbe-high : (Hs : ℕ) → Hs ≤ 242000000 → wobbe Hs (rootOf d) ≤ 461000000
+  pub wobbe-high : (Hs : ℕ) → Hs ≤ calorificHigh → wobbe Hs (rootOf d) ≤ wobbeBound
   wobbe-high Hs h = at-most (wobbe-near Hs) (omega (arith, root-low))
 
-  pub wobbe-low : (Hs : ℕ) → 4000000 ≤ Hs → 25 ≤ wobbe Hs (rootOf d)
+  pub wobbe-low : (Hs : ℕ) → calorificLow ≤ Hs → 25 ≤ wobbe Hs (rootOf d)
   wobbe-low Hs h = at-least (wobbe-near Hs) (omega (arith, root-high))

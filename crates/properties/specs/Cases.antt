@@ -34,16 +34,16 @@ K2 = mapped {B = ℕ × ℕ} (λ (p : Six). (p .Z, p .Hs)) (propertiesOf k2) ≡
 abbrev pub hydrogen : ℕ → ℕ → Contents
 hydrogen c m = contents c m (1 ∷ 41 ∷ []) (950000 ∷ 50000 ∷ [])
 
-abbrev pub heavy : ℕ → ℕ → Contents
+abbrev heavy : ℕ → ℕ → Contents
 heavy c m = contents c m (1 ∷ upFrom 10 8) (500000 ∷ replicate 10 50000)
 
-abbrev pub atHalf : ℕ → ℕ → Contents
+abbrev atHalf : ℕ → ℕ → Contents
 atHalf c m = contents c m (1 ∷ 4 ∷ 16 ∷ []) (944343 ∷ 14351 ∷ 41306 ∷ [])
 
-abbrev pub belowHalf : ℕ → ℕ → Contents
+abbrev belowHalf : ℕ → ℕ → Contents
 belowHalf c m = contents c m (1 ∷ 16 ∷ []) (990597 ∷ 9403 ∷ [])
 
-abbrev pub everyLine : ℕ → ℕ → Contents
+abbrev everyLine : ℕ → ℕ → Contents
 everyLine c m = contents c m (fullGas .lines) (fullGas .fractions)
 
 -- Gases and their properties; with K1, the gas of annex D stands at every permitted pair. The numbers are those of a second

@@ -144,5 +144,5 @@ abbrev pub propertiesOf : List ℕ → Outcome Six
 propertiesOf bs = mapped sixOf (readingOf bs)
 
 -- the first bytes of an input decide its properties, as they decide what reading gives
-abbrev pub FirstBytesDecide : Type 0
-FirstBytesDecide = (bs : List ℕ) → propertiesOf (take enough bs) ≡ propertiesOf bs
+abbrev pub FirstBytesDecideProperties : Type 0
+FirstBytesDecideProperties = (bs : List ℕ) → propertiesOf (take enough bs) ≡ propertiesOf bs

@@ -3,6 +3,9 @@ ghost use mathlib.Core.Path.{_≡_};
 ghost use Prim.Native.Nat.{_*_, _^_, _≤_, _<_};
 ghost use lib.IntN.{natAbs};
 ghost use Rattle.rounding.specs.Near.{near};
+ghost use Rattle.components.specs.Bounds.{heatHigh, massHigh, summationHigh};
+ghost use Rattle.properties.specs.Bounds.{anyHeat, anyMass, anyIdeal, airHigh, compressionLow, calorificHigh, relativeLow};
+ghost use Rattle.properties.specs.Quantities.{relativeBound};
 ghost use Rattle.properties.specs.Chain.{forMetering, temperature, divisor, airFactor, tenth, compression, idealCalorific, real, idealDensity, idealRelative, rootOf, wobbe};
 use super::quantities::CalorificValue;
 use super::quantities::CompressionFactor;
@@ -52,7 +55,7 @@ fn square(x: i64) -> u64
 
 // 2. The compression factor.
 pub fn compression_factor(s: i64) -> CompressionFactor
-    requires { ⌜ natAbs s ≤ 5250000000 ⌝ }
+    requires { ⌜ natAbs s ≤ summationHigh ⌝ }
     ensures { λ r. ⌜ r .value ≡ compression (tenth s) ⌝ }
 {
     let s9 = rounding::nearest_signed(s, 10);
@@ -64,7 +67,7 @@ pub fn compression_factor(s: i64) -> CompressionFactor
 
 // The real value of a quantity from its ideal one.
 fn real(ideal: u64, z: CompressionFactor) -> u64
-    requires { ⌜ (ideal ≤ 10000000000) × (0 < z .value) ⌝ }
+    requires { ⌜ (ideal ≤ anyIdeal) × (0 < z .value) ⌝ }
     ensures { λ r. ⌜ r ≡ real ideal (z .value) ⌝ }
 {
     rounding::nearest(ideal * CompressionFactor::SCALE, z.value())
@@ -72,7 +75,7 @@ fn real(ideal: u64, z: CompressionFactor) -> u64
 
 // 3. The ideal calorific value, J/m³.
 pub fn ideal_calorific_value(hm: u64, metering: u8) -> u64
-    requires { ⌜ hm ≤ 10000000000000 ⌝ }
+    requires { ⌜ hm ≤ anyHeat ⌝ }
     ensures { λ r. ⌜ r ≡ idealCalorific hm (divisor (temperature metering)) ⌝ }
 {
     nearest_over_d(hm * 1013250, metering)
@@ -80,7 +83,7 @@ pub fn ideal_calorific_value(hm: u64, metering: u8) -> u64
 
 // The calorific value.
 pub fn calorific_value(hm: u64, metering: u8, z: CompressionFactor) -> CalorificValue
-    requires { ⌜ (hm ≤ 3900000000000) × (724000000 ≤ z .value) ⌝ }
+    requires { ⌜ (hm ≤ heatHigh) × (compressionLow ≤ z .value) ⌝ }
     ensures { λ r. ⌜ r .value ≡ real (idealCalorific hm (divisor (temperature metering))) (z .value) ⌝ }
 {
     CalorificValue::new(real(ideal_calorific_value(hm, metering), z))
@@ -88,7 +91,7 @@ pub fn calorific_value(hm: u64, metering: u8, z: CompressionFactor) -> Calorific
 
 // 4. The ideal density, unit 10^-8 kg/m³.
 pub fn ideal_density(m: u64, metering: u8) -> u64
-    requires { ⌜ m ≤ 1500000000000 ⌝ }
+    requires { ⌜ m ≤ anyMass ⌝ }
     ensures { λ r. ⌜ r ≡ idealDensity m (divisor (temperature metering)) ⌝ }
 {
     nearest_over_d(m * 10132500, metering)
@@ -96,7 +99,7 @@ pub fn ideal_density(m: u64, metering: u8) -> u64
 
 // The density.
 pub fn density(m: u64, metering: u8, z: CompressionFactor) -> Density
-    requires { ⌜ (m ≤ 800000000000) × (724000000 ≤ z .value) ⌝ }
+    requires { ⌜ (m ≤ massHigh) × (compressionLow ≤ z .value) ⌝ }
     ensures { λ r. ⌜ r .value ≡ real (idealDensity m (divisor (temperature metering))) (z .value) ⌝ }
 {
     Density::new(real(ideal_density(m, metering), z))
@@ -104,7 +107,7 @@ pub fn density(m: u64, metering: u8, z: CompressionFactor) -> Density
 
 // 5. G, the ideal relative density, unit 10^-8; without the factor of air where `air` is 100,000.
 pub fn ideal_relative_density(m: u64, air: u64) -> u64
-    requires { ⌜ (m ≤ 1500000000000) × (air ≤ 100000) ⌝ }
+    requires { ⌜ (m ≤ anyMass) × (air ≤ airHigh) ⌝ }
     ensures { λ r. ⌜ r ≡ idealRelative m air ⌝ }
 {
     rounding::nearest(m * air, 289626000)
@@ -112,7 +115,7 @@ pub fn ideal_relative_density(m: u64, air: u64) -> u64
 
 // The relative density.
 pub fn relative_density(m: u64, air: u64, z: CompressionFactor) -> RelativeDensity
-    requires { ⌜ (m ≤ 800000000000) × (air ≤ 100000) × (724000000 ≤ z .value) ⌝ }
+    requires { ⌜ (m ≤ massHigh) × (air ≤ airHigh) × (compressionLow ≤ z .value) ⌝ }
     ensures { λ r. ⌜ r .value ≡ real (idealRelative m air) (z .value) ⌝ }
 {
     RelativeDensity::new(real(ideal_relative_density(m, air), z))
@@ -120,7 +123,7 @@ pub fn relative_density(m: u64, air: u64, z: CompressionFactor) -> RelativeDensi
 
 // 6. The Wobbe index.
 pub fn wobbe_index(hs: CalorificValue, d: RelativeDensity) -> WobbeIndex
-    requires { ⌜ (hs .value ≤ 242000000) × (27590000 ≤ d .value) × (d .value ≤ 385000000) ⌝ }
+    requires { ⌜ (hs .value ≤ calorificHigh) × (relativeLow ≤ d .value) × (d .value ≤ relativeBound) ⌝ }
     ensures { λ r. ⌜ r .value ≡ wobbe (hs .value) (rootOf (d .value)) ⌝ }
 {
     let r = rounding::integer_root(d.value() * 10000000000);

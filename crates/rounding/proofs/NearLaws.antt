@@ -1,5 +1,5 @@
--- All that the crates above use of `near`: it differs from n/q by at most a half, it is monotone, and it is exact on
--- multiples of q. Each law here holds too where halves go to the even neighbour, on both scales.
+-- Laws of `near`: it differs from n/q by at most a half, it is monotone, and it is exact on multiples of q. Each holds too where
+-- halves go to the even neighbour, on both scales.
 use mathlib.Core.Path.{_≡_, refl}
 use Prim.Native.Nat.{ℕ, suc, _+_, _*_, _-_, _/_, _≤_, _<_}
 use native.Mathlib.Nat.{div-mul-le-self, lt-div-mul-add, le-div-iff-mul-le, div-eq-of-lt-le, le-of-mul-le-mul-right}

@@ -39,11 +39,11 @@ module _ (n c : ℕ) where
           absurd (omega (arith, mean-square c (n / c + 1) (root n) (omega arith), is .square, lt-mul-div-succ n {b = c} h))
 
   module _ (is : Root (root n) n) (h : root n < c) where
-    pub quotient-below : n / c < root n + 1
+    quotient-below : n / c < root n + 1
     quotient-below = div-lt-iff-lt-mul {k = c} (omega arith) .1 (omega (arith, is .next, mul-le-mul-left (root n + 1) h))
 
     -- and at most half as far from it as c is
-    pub half-as-far : 2 * nextCandidate n c ≤ c + root n
+    half-as-far : 2 * nextCandidate n c ≤ c + root n
     unfolding nextCandidate
     half-as-far = omega (arith, quotient-below)
 
@@ -52,7 +52,7 @@ module _ (n c : ℕ) where
 pub record Above (n c rounds : ℕ) : Type 0 where
   pub small : n < 2 ^ 64
   pub least : root n ≤ c
-  pub top : c < 2 ^ 32
+  top : c < 2 ^ 32
   pub close : c * 2 ^ rounds < 2 ^ 32 + root n * 2 ^ rounds
   pub few : rounds ≤ 32
   pub left : rounds + roundsFrom (root n) n (33 - rounds) c ≡ rootRounds n

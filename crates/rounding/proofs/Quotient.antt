@@ -43,10 +43,10 @@ near-shift k n q h =
     ap (λ (m : ℕ). m / (2 * q)) e ∙ mul-add-div-right {m = 2 * q} (omega arith) k (2 * n + q)
 
 -- the long division of whole × 10^9 + rest: what stands after the first and after the second step
-abbrev pub after1 : ℕ → ℕ → ℕ → ℕ
+abbrev after1 : ℕ → ℕ → ℕ → ℕ
 after1 whole rest q = whole % q * 100000 + rest / 10000
 
-abbrev pub after2 : ℕ → ℕ → ℕ → ℕ
+abbrev after2 : ℕ → ℕ → ℕ → ℕ
 after2 whole rest q = after1 whole rest q % q * 10000 + rest % 10000
 
 module _ {whole rest q : ℕ} (w : Wide whole rest q) where

@@ -6,7 +6,7 @@ use Prim.Native.Nat.{ℕ, _*_, _-_}
 use lib.Dec.{eqb, leb}
 use lib.IntN.{ℤ, pos, natAbs, _-ℤ_}
 use Rattle.components.specs.Table.{entryOf, superior, inferior}
-use Rattle.components.specs.Rule.{atomsOf, water, allowance, excess}
+use Rattle.components.specs.Rule.{atomsOf, waterHeat, allowance, excess}
 use Rattle.components.specs.Tests.{all}
 use Rattle.records.specs.Order.{refused, accepted, mapped}
 use Rattle.records.specs.Format.{bytesOf}
@@ -84,7 +84,7 @@ ruleHolds f =
     && is (entryOf (f .line) (inferior (f .place))) (f .inferior)
     && eqb (2 * (f .superior - f .inferior)) (f .twice)
     && eqb (atomsOf (f .line)) (f .atoms)
-    && is (water (f .place)) (f .water)
+    && is (waterHeat (f .place)) (f .water)
     && eqb (f .atoms * f .water) (f .product)
     && leb (natAbs (excess (f .line) (f .place))) (allowance (f .line))
 

@@ -22,20 +22,12 @@ module _ (c : tie.Start) where
   whole =
       fits64 _ (omega (arith, natAbs-add (c .args .sum) (pos (c .args .x) *ℤ c .args .n), natAbs-mul (c .args .x) (c .args .n)))
 
-cast-result : tie.Need-cast-result
-cast-result c = search needs
-
-cast-result-2 : tie.Need-cast-result-2
-cast-result-2 c = widens (c .args .n) (c .fits .n)
-
-mul-result : tie.Need-mul-result
-mul-result c = rw (x-is c, wider (c .args .n) (c .fits .n)) (product c)
-
-add-result : tie.Need-add-result
-add-result c = rw (x-is c, wider (c .args .n) (c .fits .n), toZ-ofZ (product c), toZ-ofZ (c .fits .sum)) (whole c)
-
-returns : tie.Need-returns
-returns c = rw (x-is c, wider (c .args .n) (c .fits .n), toZ-ofZ (product c), toZ-ofZ (c .fits .sum), toZ-ofZ (whole c))
-
 pub add-product-spec : {M : Type 1} → statement M
-add-product-spec = tie.close (tie.spec cast-result cast-result-2 mul-result add-result returns)
+add-product-spec =
+    tie.close
+    (tie.spec
+    (λ c. search needs)
+    (λ c. widens (c .args .n) (c .fits .n))
+    (λ c. rw (x-is c, wider (c .args .n) (c .fits .n)) (product c))
+    (λ c. rw (x-is c, wider (c .args .n) (c .fits .n), toZ-ofZ (product c), toZ-ofZ (c .fits .sum)) (whole c))
+    (λ c. rw (x-is c, wider (c .args .n) (c .fits .n), toZ-ofZ (product c), toZ-ofZ (c .fits .sum), toZ-ofZ (whole c))))

@@ -9,27 +9,12 @@ use borrow.Author.Needs.{needs}
 use Rattle.loonstool.proofs.give.Statement.{statement}
 use Rattle.loonstool.proofs.give.Tie as tie
 
-enum-known-answer : tie.Need-enum-known-answer
-enum-known-answer c = search needs
-
-enum-known-answer-2 : tie.Need-enum-known-answer-2
-enum-known-answer-2 c = search needs
-
-in-order-requires : tie.Need-in-order-requires
-in-order-requires c κs = search needs
-
-returns : tie.Need-returns
-returns c = refusal _ (ap (λ (a : Answer). mapped inOrder (meaning a)) (sym (c .before .answer .given .1))) refl (search needs)
-
-returns-2 : tie.Need-returns-2
-returns-2 c = acceptance _ (ap (λ (a : Answer). mapped inOrder (meaning a)) (sym (c .before .before .answer2 .given .1))) refl (search needs)
-
 pub give-spec : {M : Type 1} → statement M
 give-spec =
     tie.close
     (tie.spec
-    enum-known-answer
-    enum-known-answer-2
-    in-order-requires
-    returns
-    returns-2)
+    (λ c. search needs)
+    (λ c. search needs)
+    (λ c κs. search needs)
+    (λ c. refusal _ (ap (λ (a : Answer). mapped inOrder (meaning a)) (sym (c .before .answer .given .1))) refl (search needs))
+    (λ c. acceptance _ (ap (λ (a : Answer). mapped inOrder (meaning a)) (sym (c .before .before .answer2 .given .1))) refl (search needs)))

@@ -3,24 +3,6 @@ use borrow.Author.Needs.{needs}
 use Rattle.loonstool.proofs.in_order.Statement.{statement}
 use Rattle.loonstool.proofs.in_order.Tie as tie
 
-value-requires : tie.Need-value-requires
-value-requires c κs = search needs
-
-value-requires-2 : tie.Need-value-requires-2
-value-requires-2 c κs = search needs
-
-value-requires-3 : tie.Need-value-requires-3
-value-requires-3 c κs = search needs
-
-value-requires-4 : tie.Need-value-requires-4
-value-requires-4 c κs = search needs
-
-value-requires-5 : tie.Need-value-requires-5
-value-requires-5 c κs = search needs
-
-value-requires-6 : tie.Need-value-requires-6
-value-requires-6 c κs = search needs
-
 returns : tie.Need-returns
 returns c =
     let e = c .before in
@@ -32,10 +14,10 @@ pub in-order-spec : {M : Type 1} → statement M
 in-order-spec =
     tie.close
     (tie.spec
-    value-requires
-    value-requires-2
-    value-requires-3
-    value-requires-4
-    value-requires-5
-    value-requires-6
+    (λ c κs. search needs)
+    (λ c κs. search needs)
+    (λ c κs. search needs)
+    (λ c κs. search needs)
+    (λ c κs. search needs)
+    (λ c κs. search needs)
     returns)

@@ -7,15 +7,10 @@ use Rattle.loonstool.proofs.Outcomes.{alike}
 use Rattle.loonstool.proofs.loonstool_properties_of.Statement.{statement}
 use Rattle.loonstool.proofs.loonstool_properties_of.Tie as tie
 
-properties-of-requires : tie.Need-properties-of-requires
-properties-of-requires c κs = search needs
-
-give-requires : tie.Need-give-requires
-give-requires c κs = search needs
-
-returns : tie.Need-returns
-returns c = alike (c .give .ensures) (ap (mapped inOrder) (c .before .before .properties-of .ensures))
-
 pub loonstool-properties-of-spec : {M : Type 1} → statement M
 loonstool-properties-of-spec =
-    tie.close (tie.spec properties-of-requires give-requires returns)
+    tie.close
+    (tie.spec
+    (λ c κs. search needs)
+    (λ c κs. search needs)
+    (λ c. alike (c .give .ensures) (ap (mapped inOrder) (c .before .before .properties-of .ensures))))

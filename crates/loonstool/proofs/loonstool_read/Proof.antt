@@ -7,15 +7,6 @@ use borrow.Author.Needs.{needs}
 use Rattle.loonstool.proofs.loonstool_read.Statement.{statement}
 use Rattle.loonstool.proofs.loonstool_read.Tie as tie
 
-read-requires : tie.Need-read-requires
-read-requires c κs = search needs
-
-enum-known-verdict : tie.Need-enum-known-verdict
-enum-known-verdict c = search needs
-
-enum-told : tie.Need-enum-told
-enum-told c = search needs
-
 returns : tie.Need-returns
 returns c =
     let a = c .before .before .before .before in
@@ -29,4 +20,10 @@ returns-2 c =
 
 pub loonstool-read-spec : {M : Type 1} → statement M
 loonstool-read-spec =
-    tie.close (tie.spec read-requires enum-known-verdict enum-told returns returns-2)
+    tie.close
+    (tie.spec
+    (λ c κs. search needs)
+    (λ c. search needs)
+    (λ c. search needs)
+    returns
+    returns-2)

@@ -45,9 +45,6 @@ module _ (c : tie.After-struct-told) where
       let e = c .before .before .sums-of .ensures .1 .1 .1 in
       toZ-ofZ (fits64 _ (rw e (omega (arith, summation-high gas good)))) ∙ e
 
-compression-factor-requires : tie.Need-compression-factor-requires
-compression-factor-requires c κs = rw (summation-is c) (summation-high (gas c) (good c))
-
 -- D, A and Z
 module _ (c : tie.After-compression-factor) where
   abbrev sums : tie.After-sums-of
@@ -126,9 +123,6 @@ module _ (c : tie.After-wobbe-index) where
   unfolding W r
   W-is = stepped-index (c .wobbe-index .ensures) (Hs-is (c .before)) (d-is (c .before))
 
-returns : tie.Need-returns
-returns c = together _ _ (Z-is (z c)) (Hs-is (c .before)) (Hi-is c) (rho-is c) (d-is (c .before)) (W-is c)
-
 pub calculate-spec : {M : Type 1} → statement M
 calculate-spec =
     tie.close
@@ -136,10 +130,10 @@ calculate-spec =
     (λ c κs. accepted-head (c .before .args .bytes .now) (c .before .pre) .long)
     (λ c κs. search needs)
     (λ c κs. search needs)
-    compression-factor-requires
+    (λ c κs. rw (summation-is c) (summation-high (gas c) (good c)))
     calorific-value-requires
     calorific-value-requires-2
     density-requires
     relative-density-requires
     wobbe-index-requires
-    returns)
+    (λ c. together _ _ (Z-is (z c)) (Hs-is (c .before)) (Hi-is c) (rho-is c) (d-is (c .before)) (W-is c)))

@@ -5,9 +5,6 @@ use Rattle.rounding.specs.Root.{nextCandidate, firstCandidate}
 use Rattle.rounding.proofs.first_candidate.Statement.{statement}
 use Rattle.rounding.proofs.first_candidate.Tie as tie
 
-add-c : tie.Need-add-c
-add-c c = search needs
-
 returns : tie.Need-returns
 unfolding nextCandidate firstCandidate
 returns c = rw (lt-ltb _ _ (c .if1 .taken))
@@ -17,4 +14,5 @@ unfolding nextCandidate firstCandidate
 returns-2 c = rw (le-ltb _ _ (c .if1 .left))
 
 pub first-candidate-spec : {M : Type 1} → statement M
-first-candidate-spec = tie.close (tie.spec add-c returns returns-2)
+first-candidate-spec =
+    tie.close (tie.spec (λ c. search needs) returns returns-2)

@@ -16,15 +16,6 @@ use Rattle.rounding.proofs.nearest_signed.Tie as tie
 size : (n : ℤ) (q : ℕ) → (0 < q) × (natAbs n < 2 ^ 63) → natAbs (nearZ n q) < 2 ^ 63
 size n q (h, small) = omega (arith, at-most {b = natAbs n} (near-z-half n q h) (le-mul-of-pos-right (natAbs n) h))
 
-sub-nearest-below-zero : tie.Need-sub-nearest-below-zero
-sub-nearest-below-zero c = opposite-fits _ (c .before .fits .n) (c .before .pre .1) (c .if1 .taken)
-
-cast-nearest-below-zero : tie.Need-cast-nearest-below-zero
-cast-nearest-below-zero c = cast-pos _ _ (opposite-is _ (c .before .fits .n) (c .before .pre .1) (c .if1 .taken)) (c .before .pre .1)
-
-nearest-below-zero-requires : tie.Need-nearest-below-zero-requires
-nearest-below-zero-requires c κs = search needs
-
 below : (c : tie.After-nearest-below-zero) → negℤ (pos (c .nearest-below-zero .result)) ≡ nearZ (c .before .before .args .n) (c .before .before .args .q)
 below c =
     let s = c .before .before in
@@ -36,17 +27,8 @@ below c =
 below-size : (c : tie.After-nearest-below-zero) → c .nearest-below-zero .result < 2 ^ 63
 below-size c = rw (← below c, natAbs-neg) at (size (c .before .before .args .n) (c .before .before .args .q) (c .before .before .pre))
 
-cast-result : tie.Need-cast-result
-cast-result c = fits64 _ (below-size c)
-
 sub-result : tie.Need-sub-result
 sub-result c = minus-fits _ (below-size c)
-
-cast-nearest : tie.Need-cast-nearest
-cast-nearest c = cast-pos _ _ (value-is _ (c .before .fits .n) (c .before .pre .1) (c .if1 .left)) (c .before .pre .1)
-
-nearest-requires : tie.Need-nearest-requires
-nearest-requires c κs = search needs
 
 above : (c : tie.After-nearest) → pos (c .nearest .result) ≡ nearZ (c .before .before .args .n) (c .before .before .args .q)
 above c =
@@ -60,26 +42,17 @@ above c =
 above-size : (c : tie.After-nearest) → c .nearest .result < 2 ^ 63
 above-size c = rw (← above c) at (size (c .before .before .args .n) (c .before .before .args .q) (c .before .before .pre))
 
-cast-result-2 : tie.Need-cast-result-2
-cast-result-2 c = fits64 _ (above-size c)
-
-returns : tie.Need-returns
-returns c = toZ-ofZ (sub-result c) ∙ minus-is _ (below-size c) ∙ below c
-
-returns-2 : tie.Need-returns-2
-returns-2 c = toZ-pos _ (above-size c) ∙ above c
-
 pub nearest-signed-spec : {M : Type 1} → statement M
 nearest-signed-spec =
     tie.close
     (tie.spec
-    sub-nearest-below-zero
-    cast-nearest-below-zero
-    nearest-below-zero-requires
-    cast-result
+    (λ c. opposite-fits _ (c .before .fits .n) (c .before .pre .1) (c .if1 .taken))
+    (λ c. cast-pos _ _ (opposite-is _ (c .before .fits .n) (c .before .pre .1) (c .if1 .taken)) (c .before .pre .1))
+    (λ c κs. search needs)
+    (λ c. fits64 _ (below-size c))
     sub-result
-    cast-nearest
-    nearest-requires
-    cast-result-2
-    returns
-    returns-2)
+    (λ c. cast-pos _ _ (value-is _ (c .before .fits .n) (c .before .pre .1) (c .if1 .left)) (c .before .pre .1))
+    (λ c κs. search needs)
+    (λ c. fits64 _ (above-size c))
+    (λ c. toZ-ofZ (sub-result c) ∙ minus-is _ (below-size c) ∙ below c)
+    (λ c. toZ-pos _ (above-size c) ∙ above c))

@@ -13,29 +13,11 @@ Inv-loop n c₀ rounds₀ c rounds = Above n c rounds
 abbrev μ-loop : tie.MeasureT-loop
 μ-loop n c₀ rounds₀ c rounds = c
 
-first-candidate-requires : tie.Need-first-candidate-requires Inv-loop μ-loop
-first-candidate-requires c κs = search needs
-
-loop-holds : tie.Need-loop-holds Inv-loop μ-loop
-loop-holds c = first-above _ _ (omega arith) (c .first-candidate .ensures)
-
-add-rounds : tie.Need-add-rounds Inv-loop μ-loop
-add-rounds c = omega (arith, c .loop .inv .few)
-
-mul-if1 : tie.Need-mul-if1 Inv-loop μ-loop
-mul-if1 c = omega (arith, square-fits (c .loop .inv))
-
 returns : tie.Need-returns Inv-loop μ-loop
 returns c =
     let b = c .before .loop .inv in
     let h : c .before .loop .c * c .before .loop .c ≤ c .before .before .before .args .n = omega arith in
     (found b h, (counted b h, omega (arith, b .few)))
-
-div-c : tie.Need-div-c Inv-loop μ-loop
-div-c c = omega (arith, above (c .before .loop .inv) (omega arith))
-
-add-c : tie.Need-add-c Inv-loop μ-loop
-add-c c = omega (arith, sum-fits (c .before .loop .inv) (omega arith))
 
 loop-less : tie.Need-loop-less Inv-loop μ-loop
 unfolding nextCandidate
@@ -48,4 +30,4 @@ loop-again c = again (c .before .loop .inv) (omega arith)
 pub root-search-spec : {M : Type 1} → statement M
 root-search-spec =
     tie.close
-    (tie.spec Inv-loop μ-loop first-candidate-requires loop-holds add-rounds mul-if1 returns div-c add-c loop-less loop-again)
+    (tie.spec Inv-loop μ-loop (λ c κs. search needs) (λ c. first-above _ _ (omega arith) (c .first-candidate .ensures)) (λ c. omega (arith, c .loop .inv .few)) (λ c. omega (arith, square-fits (c .loop .inv))) returns (λ c. omega (arith, above (c .before .loop .inv) (omega arith))) (λ c. omega (arith, sum-fits (c .before .loop .inv) (omega arith))) loop-less loop-again)

@@ -5,6 +5,7 @@ use native.Mathlib.Omega.{arith}
 use borrow.Author.Needs.{needs}
 use lib.ListN.{getD}
 use Rattle.rounding.proofs.NearLaws as near
+use Rattle.components.proofs.Entries.{largest}
 use Rattle.properties.specs.Chain.{divisor, temperature}
 use Rattle.properties.proofs.StepBounds.{divisor-low, calorific-near}
 use Rattle.printed_tables.specs.Figures.{superiors, meterings}
@@ -15,7 +16,7 @@ use Rattle.printed_tables.proofs.tables.per_cubic_metre.Tie as tie
 superior-high : (k : ℕ) → k < 6 → getD superiors k 0 ≤ 10
 superior-high = at-most (λ (k : ℕ). getD superiors k 0) 10 6 tt
 
-heat-high : (c : tie.After-number) → 1000000 * c .number .result ≤ 6842690000000
+heat-high : (c : tie.After-number) → 1000000 * c .number .result ≤ 1000000 * largest
 heat-high c = product-high _ _ {x = 1000000} (omega arith) (c .number .ensures)
 
 value-high : (c : tie.After-ideal-calorific-value) → c .ideal-calorific-value .result ≤ 500000000
@@ -23,9 +24,6 @@ value-high c =
     let d = divisor-low (getD meterings (c .before .before .args .column / 2) 0) in
     let close = calorific-near (1000000 * c .before .number .result) (divisor (temperature (getD meterings (c .before .before .args .column / 2) 0))) (omega arith) in
     omega (arith, c .ideal-calorific-value .ensures, near.at-most {b = 500000000} close (omega (arith, heat-high (c .before))))
-
-number-requires : tie.Need-number-requires
-number-requires c κs = (c .pre .0, c .pre .1, omega (arith, superior-high (c .args .column / 2) (omega arith)))
 
 mul-nearest : tie.Need-mul-nearest
 mul-nearest c =
@@ -42,7 +40,7 @@ per-cubic-metre-spec =
     (λ c. search needs)
     (λ c. search needs)
     (λ c. record { fits = omega (arith, superior-high (c .args .column / 2) (omega arith)) })
-    number-requires
+    (λ c κs. (c .pre .0, c .pre .1, omega (arith, superior-high (c .args .column / 2) (omega arith))))
     (λ c. product-fits _ _ (omega arith) (c .number .ensures))
     (λ c. search needs)
     (λ c κs. omega (arith, heat-high c))

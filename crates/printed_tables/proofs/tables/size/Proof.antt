@@ -6,20 +6,12 @@ use Rattle.rounding.proofs.SignedWords.{cast-pos, opposite-fits, opposite-is, v
 use Rattle.printed_tables.proofs.tables.size.Statement.{statement}
 use Rattle.printed_tables.proofs.tables.size.Tie as tie
 
-sub-result : tie.Need-sub-result
-sub-result c = let s = c .before in opposite-fits _ (s .fits .n) (omega (arith, s .pre)) (c .if1 .taken)
-
-cast-result : tie.Need-cast-result
-cast-result c = let s = c .before in cast-pos _ _ (opposite-is _ (s .fits .n) (omega (arith, s .pre)) (c .if1 .taken)) (omega (arith, s .pre))
-
-returns : tie.Need-returns
-returns c = let s = c .before in ap natAbs (opposite-is _ (s .fits .n) (omega (arith, s .pre)) (c .if1 .taken))
-
-cast-result-2 : tie.Need-cast-result-2
-cast-result-2 c = let s = c .before in cast-pos _ _ (value-is _ (s .fits .n) (omega (arith, s .pre)) (c .if1 .left)) (omega (arith, s .pre))
-
-returns-2 : tie.Need-returns-2
-returns-2 c = let s = c .before in ap natAbs (value-is _ (s .fits .n) (omega (arith, s .pre)) (c .if1 .left))
-
 pub size-spec : {M : Type 1} → statement M
-size-spec = tie.close (tie.spec sub-result cast-result returns cast-result-2 returns-2)
+size-spec =
+    tie.close
+    (tie.spec
+    (λ c. let s = c .before in opposite-fits _ (s .fits .n) (omega (arith, s .pre)) (c .if1 .taken))
+    (λ c. let s = c .before in cast-pos _ _ (opposite-is _ (s .fits .n) (omega (arith, s .pre)) (c .if1 .taken)) (omega (arith, s .pre)))
+    (λ c. let s = c .before in ap natAbs (opposite-is _ (s .fits .n) (omega (arith, s .pre)) (c .if1 .taken)))
+    (λ c. let s = c .before in cast-pos _ _ (value-is _ (s .fits .n) (omega (arith, s .pre)) (c .if1 .left)) (omega (arith, s .pre)))
+    (λ c. let s = c .before in ap natAbs (value-is _ (s .fits .n) (omega (arith, s .pre)) (c .if1 .left))))

@@ -20,27 +20,12 @@ module _ (c : tie.After-nearest-signed) where
   value : toZ w64 (ofZ w64 (c .nearest-signed .result)) ≡ tenth (c .before .args .s)
   value = toZ-ofZ (sfits-of (c .nearest-signed .ok)) ∙ c .nearest-signed .ensures ∙ ap tenth (toZ-ofZ (c .before .fits .s))
 
-  small : natAbs (tenth (c .before .args .s)) ≤ 525000000
+  small : natAbs (tenth (c .before .args .s)) ≤ 10 ^ 9
   small = tenth-high (c .before .args .s) (c .before .pre)
 
   square-is : (r : ℕ) → r ≡ natAbs (toZ w64 (ofZ w64 (c .nearest-signed .result))) * natAbs (toZ w64 (ofZ w64 (c .nearest-signed .result)))
       → r ≡ natAbs (tenth (c .before .args .s)) * natAbs (tenth (c .before .args .s))
   square-is r e = e ∙ ap (λ (z : ℤ). natAbs z * natAbs z) value
-
-nearest-signed-requires : tie.Need-nearest-signed-requires
-nearest-signed-requires c κs = (omega arith, rw (toZ-ofZ (c .fits .s)) (omega (arith, c .pre)))
-
-square-requires : tie.Need-square-requires
-square-requires c κs = rw (value c) (omega (arith, small c))
-
-sub-nearest : tie.Need-sub-nearest
-sub-nearest c = omega (arith, square-is (c .before) _ (c .square .ensures), mul-le-mul (small (c .before)) (small (c .before)))
-
-nearest-requires : tie.Need-nearest-requires
-nearest-requires c κs = search needs
-
-new-requires : tie.Need-new-requires
-new-requires c κs = omega (arith, c .nearest .ensures, compression-high (c .before .square .result))
 
 returns : tie.Need-returns
 returns c =
@@ -51,9 +36,9 @@ pub compression-factor-spec : {M : Type 1} → statement M
 compression-factor-spec =
     tie.close
     (tie.spec
-    nearest-signed-requires
-    square-requires
-    sub-nearest
-    nearest-requires
-    new-requires
+    (λ c κs. (omega arith, rw (toZ-ofZ (c .fits .s)) (omega (arith, c .pre))))
+    (λ c κs. rw (value c) (omega (arith, small c)))
+    (λ c. omega (arith, square-is (c .before) _ (c .square .ensures), mul-le-mul (small (c .before)) (small (c .before))))
+    (λ c κs. search needs)
+    (λ c κs. omega (arith, c .nearest .ensures, compression-high (c .before .square .result)))
     returns)

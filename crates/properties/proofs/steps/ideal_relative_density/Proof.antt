@@ -5,14 +5,10 @@ use native.Mathlib.Nat.{mul-le-mul}
 use Rattle.properties.proofs.steps.ideal_relative_density.Statement.{statement}
 use Rattle.properties.proofs.steps.ideal_relative_density.Tie as tie
 
-mul-nearest : tie.Need-mul-nearest
-mul-nearest c = record { fits = omega (arith, mul-le-mul (c .pre .0) (c .pre .1)) }
-
-nearest-requires : tie.Need-nearest-requires
-nearest-requires c κs = search needs
-
-returns : tie.Need-returns
-returns c = cc
-
 pub ideal-relative-density-spec : {M : Type 1} → statement M
-ideal-relative-density-spec = tie.close (tie.spec mul-nearest nearest-requires returns)
+ideal-relative-density-spec =
+    tie.close
+    (tie.spec
+    (λ c. record { fits = omega (arith, mul-le-mul (c .pre .0) (c .pre .1)) })
+    (λ c κs. search needs)
+    (λ c. cc))

@@ -31,14 +31,10 @@ module _ (c : tie.Start) where
   value : toZ w64 (ofZ w64 (toZ w64 (ofZ w64 (c .args .x)) *ℤ toZ w64 (ofZ w64 (c .args .x)))) ≡ pos (size * size)
   value = toZ-ofZ fits ∙ product
 
-mul-result : tie.Need-mul-result
-mul-result c = fits c
-
-cast-result : tie.Need-cast-result
-cast-result c = cast-pos _ _ (value c) (small (size c) (c .pre))
-
-returns : tie.Need-returns
-returns c = ap natAbs (value c)
-
 pub square-spec : {M : Type 1} → statement M
-square-spec = tie.close (tie.spec mul-result cast-result returns)
+square-spec =
+    tie.close
+    (tie.spec
+    (λ c. fits c)
+    (λ c. cast-pos _ _ (value c) (small (size c) (c .pre)))
+    (λ c. ap natAbs (value c)))

@@ -62,15 +62,6 @@ module _ (at : tie.At-loop Inv-loop μ-loop) where
   metering-known : placed .metering-place .result < 3
   metering-known = rw metering-is (metering-place (meteringIn (bs start)))
 
-loop-holds : tie.Need-loop-holds Inv-loop μ-loop
-loop-holds c = rw (c .no-sums .ensures) (no-sums _ _ _ _)
-
-line-in-requires : tie.Need-line-in-requires Inv-loop μ-loop
-line-in-requires c κs = let s = start (c .before) in (accepted-clear (bs s) (s .pre), omega (arith, n-is (c .before)))
-
-fraction-in-requires : tie.Need-fraction-in-requires Inv-loop μ-loop
-fraction-in-requires c κs = let s = start (c .before .before) in (accepted-clear (bs s) (s .pre), omega (arith, n-is (c .before .before)))
-
 add-to-sums-requires : tie.Need-add-to-sums-requires Inv-loop μ-loop
 add-to-sums-requires c κs =
     let i = c .before in
@@ -78,12 +69,6 @@ add-to-sums-requires c κs =
     let s = start at in
     let l = good s .composition .lines (at .loop .i) (omega (arith, count at)) in
     ((rw (i .line-in .ensures) (l .0), rw (i .line-in .ensures) (l .1), combustion-known at, metering-known at), sums-small (at .loop .inv) (good s .composition))
-
-add-i : tie.Need-add-i Inv-loop μ-loop
-add-i c = search needs
-
-loop-less : tie.Need-loop-less Inv-loop μ-loop
-loop-less c = omega arith
 
 loop-again : tie.Need-loop-again Inv-loop μ-loop
 loop-again c =
@@ -121,11 +106,11 @@ sums-of-spec =
     (λ c κs. tt)
     (λ c κs. headed (c .before .before .before .before .before) .long)
     (λ c κs. tt)
-    loop-holds
-    line-in-requires
-    fraction-in-requires
+    (λ c. rw (c .no-sums .ensures) (no-sums _ _ _ _))
+    (λ c κs. let s = start (c .before) in (accepted-clear (bs s) (s .pre), omega (arith, n-is (c .before))))
+    (λ c κs. let s = start (c .before .before) in (accepted-clear (bs s) (s .pre), omega (arith, n-is (c .before .before))))
     add-to-sums-requires
-    add-i
-    loop-less
+    (λ c. search needs)
+    (λ c. omega arith)
     loop-again
     returns)

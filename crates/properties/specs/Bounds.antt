@@ -1,0 +1,54 @@
+-- Bounds of the numbers of each step. Those of an accepted record follow from the bounds of its sums (components/specs/Bounds.antt).
+use Prim.Native.Nat.{ℕ, _*_}
+
+-- Hm, M and an ideal value that a step takes, of any gas, so that its products fit 64 bits
+abbrev pub anyHeat : ℕ
+anyHeat = 10000000000000
+
+abbrev pub anyMass : ℕ
+anyMass = 1500000000000
+
+abbrev pub anyIdeal : ℕ
+anyIdeal = 10000000000
+
+-- D, at 0 and at 20 °C, and A, unit 10^-5
+abbrev pub divisorLow : ℕ
+divisorLow = 831451 * 27315
+
+abbrev pub divisorHigh : ℕ
+divisorHigh = 831451 * 29315
+
+abbrev pub airLow : ℕ
+airLow = 99900
+
+abbrev pub airHigh : ℕ
+airHigh = 100000
+
+-- 2. Z, unit 10^-9
+abbrev pub compressionLow : ℕ
+compressionLow = 724000000
+
+-- 3. The ideal calorific value, and Hs, unit J/m³; the lower bound is of both
+abbrev pub calorificLow : ℕ
+calorificLow = 4000000
+
+abbrev pub idealCalorificHigh : ℕ
+idealCalorificHigh = 175000000
+
+abbrev pub calorificHigh : ℕ
+calorificHigh = 242000000
+
+-- 5. G and d, unit 10^-8; the lower bound is of both
+abbrev pub relativeLow : ℕ
+relativeLow = 27590000
+
+abbrev pub idealRelativeHigh : ℕ
+idealRelativeHigh = 277000000
+
+-- an ideal value of any property, unit of the property
+abbrev pub idealHigh : ℕ
+idealHigh = 365000000
+
+-- 6. r
+abbrev pub rootLow : ℕ
+rootLow = 525000000
