@@ -9,6 +9,21 @@ use Rattle.meter.specs.declared.Register.{Register}
 use Rattle.meter.specs.declared.Stream.{Stream}
 use Rattle.meter.specs.declared.Meter.{Meter}
 
+-- the last stream
+abbrev pub lastStream : ℕ
+lastStream = 15
+
+-- the most that one metering call adds, and the most that a volume total comes to, in dm³
+abbrev pub mostVolume : ℕ
+mostVolume = 10000000
+
+abbrev pub mostTotal : ℕ
+mostTotal = 999999999999
+
+-- mJ in 1 MJ
+abbrev pub perMJ : ℕ
+perMJ = 1000000000
+
 -- no analysis, volume 0, energy 0
 abbrev pub freshStream : Stream
 freshStream = record { analysis = Nothing; volume = 0; energy = record { whole = 0; rest = 0 } }
@@ -34,10 +49,6 @@ hsOf (Known gas) = gas .properties .hs .value
 abbrev pub amountIn : ℕ → Register → ℕ
 amountIn u e = e .whole * u + e .rest
 
--- mJ in 1 MJ
-abbrev pub perMJ : ℕ
-perMJ = 1000000000
-
 -- what holds of a register at a volume total v: the rest is below one whole, and the amount at most v × a ceiling
 pub record SoundRegister (u ceiling v : ℕ) (e : Register) : Type 0 where
   pub rest : e .rest < u
@@ -46,10 +57,10 @@ pub record SoundRegister (u ceiling v : ℕ) (e : Register) : Type 0 where
 -- what holds of every stream
 pub record SoundStream (s : Stream) : Type 0 where
   pub Hs : hsOf (s .analysis) ≤ calorificBound
-  pub volume : s .volume ≤ 999999999999
+  pub volume : s .volume ≤ mostTotal
   pub energy : SoundRegister perMJ calorificBound (s .volume) (s .energy)
 
 -- what holds of every meter, as made or as its calls left it
 pub record Sound (m : Meter) : Type 0 where
   pub count : length (m .streams) ≡ 16
-  pub each : (k : ℕ) → k < 16 → SoundStream (streamAt m k)
+  pub each : (k : ℕ) → k ≤ lastStream → SoundStream (streamAt m k)

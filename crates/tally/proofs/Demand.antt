@@ -1,11 +1,11 @@
 -- Demand 3, for every list of calls from a fresh meter.
 use mathlib.Core.Path.{_≡_, refl, sym, ap, _∙_}
 use mathlib.Core.List.{List}
-use Prim.Native.Nat.{ℕ, zero, suc, _+_, _*_, _≤_, _<_}
+use Prim.Native.Nat.{ℕ, _+_, _*_, _≤_, _<_}
 use native.Mathlib.Nat.{mul-le-mul-right, mul-pos}
 use native.Mathlib.Omega.{arith}
 use borrow.Author.Tests.{le-ltb, ne-eqb, eq-eqb}
-use lib.ListN.{getD, drop, replicate}
+use lib.ListN.{getD, drop}
 use Rattle.rounding.specs.Near.{near}
 use Rattle.rounding.specs.Fraction.{Fraction, whole, dividedBy, Within}
 use Rattle.rounding.proofs.NearLaws.{near-half}
@@ -18,8 +18,9 @@ use Rattle.properties.proofs.Gas.{every-accepted-record}
 use Rattle.meter.specs.declared.Meter.{Meter}
 use Rattle.meter.specs.State.{Sound, freshStream, freshMeter, streamAt}
 use Rattle.meter.proofs.Orders.{record-clear}
+use Rattle.meter.proofs.Streams.{at-made}
 use Rattle.meter.proofs.Kept.{fresh-is-sound, no-mean-above-ceiling}
-use Rattle.tally.specs.Tally.{analysis, Call, done, Answer, StreamTally, freshStreamTally, Tally, freshTally, tallyAt, above15, otherPair, orderOf, tallyAfter, answersTo, tallied}
+use Rattle.tally.specs.Tally.{lastStream, analysis, Call, done, Answer, StreamTally, freshStreamTally, Tally, freshTally, tallyAt, above15, otherPair, orderOf, tallyAfter, answersTo, tallied}
 use Rattle.tally.specs.Run.{Run, ended, after, by-totals, by-mean}
 use Rattle.tally.specs.Demand.{acceptedVolume, AcceptedIn, here, later, AnalysisShown, nothing, EachLeaves, Claim}
 use Rattle.tally.proofs.Alike.{Alike}
@@ -27,8 +28,8 @@ use Rattle.tally.proofs.Steps.{Linked, required, step, step-leaves}
 use Rattle.tally.proofs.Volumes.{volume-sum}
 
 -- near(n / v) is within t + 1 of x / v, where n is within t × v of x
-mean-within : (t n v : ℕ) (x : Fraction) → 0 < v → Within (whole (t * v)) n x → Within (whole (t + 1)) (near n v) (dividedBy x v)
-mean-within t n v x p h =
+mean-distance : (t n v : ℕ) (x : Fraction) → 0 < v → Within (whole (t * v)) n x → Within (whole (t + 1)) (near n v) (dividedBy x v)
+mean-distance t n v x p h =
     let r = near-half n v p in
     record {
       proper = (mul-pos (h .proper .0) p, omega arith);
@@ -37,23 +38,18 @@ mean-within t n v x p h =
     }
 
 -- the mean of an account beside the stream k of a meter
-account-ceiling : (m : Meter) (k : ℕ) (l : StreamTally) → k < 16 → Sound m → Alike (streamAt m k) l → 0 < l .volume → near (l .energy .booked) (l .volume) ≤ calorificBound
+account-ceiling : (m : Meter) (k : ℕ) (l : StreamTally) → k ≤ lastStream → Sound m → Alike (streamAt m k) l → 0 < l .volume → near (l .energy .booked) (l .volume) ≤ calorificBound
 account-ceiling m k l b sound a p =
     rw (← a .energy .amount, ← a .volume)
-    (no-mean-above-ceiling m k _ sound (rw (le-ltb 15 k (omega arith), ne-eqb (streamAt m k .volume) 0 (omega (arith, a .volume)))))
+    (no-mean-above-ceiling m k _ sound (rw (le-ltb lastStream k b, ne-eqb (streamAt m k .volume) 0 (omega (arith, a .volume)))))
 
 -- a fresh meter beside a fresh tally
 fresh-alike : Alike freshStream freshStreamTally
 fresh-alike = record { inForce = nothing; pair = refl; volume = refl; energy = record { rest = omega arith; amount = refl; within = omega arith } }
 
-everywhere : {A : Type 0} (n k : ℕ) (x : A) → getD (replicate n x) k x ≡ x
-everywhere zero k x = refl
-everywhere (suc n) zero x = refl
-everywhere (suc n) (suc k) x = everywhere n k x
-
 fresh-linked : Linked freshMeter freshTally
 fresh-linked =
-    record { sound = fresh-is-sound; count = refl; each = λ k. rw (everywhere 16 k freshStream, everywhere 16 k freshStreamTally) fresh-alike }
+    record { sound = fresh-is-sound; count = refl; each = λ k. rw (at-made freshStream 16 k, at-made freshStreamTally 16 k) fresh-alike }
 
 -- a list of calls
 record Ran (t : Tally) (cs : List Call) (rs : List Answer) (m : Meter) : Type 0 where
@@ -99,14 +95,14 @@ demand3 m₀ m cs rs made ran =
           record {
             volume =
                 omega
-                (arith, volume-sum k b freshTally cs refl, ap (λ (x : StreamTally). x .volume) (everywhere 16 k freshStreamTally), ap (acceptedVolume k cs) (r .answers));
-            totals = λ x got. step m t (r .linked) (by-totals k x got) .answer ∙ rw (le-ltb 15 k (omega arith));
-            mean = λ x got p. step m t (r .linked) (by-mean k x got) .answer ∙ rw (le-ltb 15 k (omega arith), ne-eqb (l .volume) 0 (omega arith));
-            no-mean = λ x got p. step m t (r .linked) (by-mean k x got) .answer ∙ rw (le-ltb 15 k (omega arith), eq-eqb (l .volume) 0 p);
-            within =
+                (arith, volume-sum k b freshTally cs refl, ap (λ (x : StreamTally). x .volume) (at-made freshStreamTally 16 k), ap (acceptedVolume k cs) (r .answers));
+            totals = λ x got. step m t (r .linked) (by-totals k x got) .answer ∙ rw (le-ltb lastStream k b);
+            mean = λ x got p. step m t (r .linked) (by-mean k x got) .answer ∙ rw (le-ltb lastStream k b, ne-eqb (l .volume) 0 (omega arith));
+            no-mean = λ x got p. step m t (r .linked) (by-mean k x got) .answer ∙ rw (le-ltb lastStream k b, eq-eqb (l .volume) 0 p);
+            energy-within = a .energy .within;
+            mean-within =
                 record {
-                  energy = a .energy .within;
-                  mean = λ p. mean-within 2 (l .energy .booked) (l .volume) (l .energy .exact) p (a .energy .within);
+                  distance = λ p. mean-distance 2 (l .energy .booked) (l .volume) (l .energy .exact) p (a .energy .within);
                   ceiling = λ p. account-ceiling m k l b (r .linked .sound) a p;
                 };
             inForce = a .inForce;

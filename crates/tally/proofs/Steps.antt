@@ -1,12 +1,13 @@
 -- One call on a meter and on the tally beside it: the answers are the same, and what they leave is alike.
 use mathlib.Core.Path.{_≡_, refl, sym, ap, subst, _∙_}
-use mathlib.Core.Bool.{false, false≢true}
-use Prim.Native.Nat.{ℕ, zero, suc, _<_}
-use native.Mathlib.Decide.{ℕ-discrete}
+use mathlib.Core.Bool.{Bool, true, false, cond, false≢true}
+use mathlib.Core.List.{List}
+use Prim.Native.Nat.{ℕ, zero, suc, _≤_}
 use native.Mathlib.Omega.{arith}
 use denote.Ref.{now}
-use lib.ListN.{length, set, length-set}
-use lib.Seq.{getD-set-same, getD-set-other, set-getD}
+use lib.Dec.{eqb}
+use lib.ListN.{length, length-set}
+use lib.Seq.{set-getD}
 use Rattle.records.specs.declared.Verdict.{Verdict}
 use Rattle.records.specs.declared.Verdict.the-variants.{Accepted, Refused}
 use Rattle.records.specs.Order.{Outcome, refused, firstOf, decided, otherwise, mapped}
@@ -19,8 +20,9 @@ use Rattle.meter.specs.Conditions.{analysisOrder, meteringOrder, totalsOrder, m
 use Rattle.meter.specs.Calls.{analysed, metered, totalsIn, meanIn}
 use Rattle.meter.specs.Answers.{totalsMeaning, meanMeaning}
 use Rattle.meter.proofs.Orders.{clear-analysis, clear-metering}
+use Rattle.meter.proofs.Streams.{at-put}
 use Rattle.meter.proofs.Kept.{analysis-keeps, metering-keeps, analysis-leaves-others, metering-leaves-others}
-use Rattle.tally.specs.Tally.{Ask, analysis, metering, totals, mean, Call, Given, done, meanIs, Answer, StreamTally, freshStreamTally, Tally, tallyAt, leftBy, givenBy, numberFor, answerTo, tallyAfter}
+use Rattle.tally.specs.Tally.{lastStream, Ask, analysis, metering, totals, mean, Call, Given, done, meanIs, Answer, StreamTally, freshStreamTally, Tally, tallyAt, withTally, leftBy, givenBy, numberFor, answerTo, tallyAfter}
 use Rattle.tally.specs.Run.{changeAnswer, totalsGiven, Step, by-analysis, by-metering, by-totals, by-mean}
 use Rattle.tally.specs.Demand.{isReading, Required, Leaves}
 use Rattle.tally.proofs.Alike.{Alike, analysis-order, metering-order, mean-order, analysis-alike, metering-alike, totals-alike, mean-alike}
@@ -28,7 +30,7 @@ use Rattle.tally.proofs.Alike.{Alike, analysis-order, metering-order, m
 -- a meter beside a tally
 pub record Linked (m : Meter) (t : Tally) : Type 0 where
   pub sound : Sound m
-  pub count : length t ≡ 16
+  pub count : length (t .streams) ≡ 16
   pub each : (k : ℕ) → Alike (streamAt m k) (tallyAt t k)
 
 -- what holds of every meter is all that the contracts require
@@ -47,24 +49,23 @@ meaning-of (Refused n) x y = refl
 
 module _ (m : Meter) (t : Tally) (h : Linked m t) where
   -- one stream is replaced on both sides
-  each-with : (k : ℕ) (s : Stream) (l : StreamTally) → k < 16 → Alike s l → (j : ℕ) → Alike (streamAt (withStream m k s) j) (tallyAt (set t k l) j)
-  each-with k s l b a j = at (ℕ-discrete j k)
+  each-with : (k : ℕ) (s : Stream) (l : StreamTally) → k ≤ lastStream → Alike s l → (j : ℕ) → Alike (streamAt (withStream m k s) j) (tallyAt (withTally t k l) j)
+  each-with k s l b a j =
+      rw (at-put freshStream (m .streams) k j s (λ e. omega (arith, h .sound .count)), at-put freshStreamTally (t .streams) k j l (λ e. omega (arith, h .count)))
+      (at (eqb k j))
     where
-      at : Dec (j ≡ k) → Alike (streamAt (withStream m k s) j) (tallyAt (set t k l) j)
-      at (yes e) =
-          let p : k < length (m .streams) = omega (arith, h .sound .count) in
-          let q : k < length t = omega (arith, h .count) in
-          rw (e, getD-set-same (m .streams) k s freshStream p, getD-set-same t k l freshStreamTally q) a
-      at (no e) = rw (getD-set-other (m .streams) k j s freshStream e, getD-set-other t k j l freshStreamTally e) (h .each j)
+      at : (b : Bool) → Alike (cond b s (streamAt m j)) (cond b l (tallyAt t j))
+      at true = a
+      at false = h .each j
 
-  linked-with : (n k : ℕ) (s : Stream) (l : StreamTally) → (n ≡ 0 → (k < 16) × Alike s l) → Sound (otherwise m (decided n (withStream m k s))) →
-      Linked (otherwise m (decided n (withStream m k s))) (otherwise t (decided n (set t k l)))
-  linked-with zero k s l new sound = let a = new refl in record { sound = sound; count = length-set t k l ∙ h .count; each = each-with k s l (a .0) (a .1) }
+  linked-with : (n k : ℕ) (s : Stream) (l : StreamTally) → (n ≡ 0 → (k ≤ lastStream) × Alike s l) → Sound (otherwise m (decided n (withStream m k s))) →
+      Linked (otherwise m (decided n (withStream m k s))) (otherwise t (decided n (withTally t k l)))
+  linked-with zero k s l new sound = let a = new refl in record { sound = sound; count = length-set (t .streams) k l ∙ h .count; each = each-with k s l (a .0) (a .1) }
   linked-with (suc n) k s l new sound = h
 
   -- a call that may change its stream
   changes : (k : ℕ) (ask : Ask) (s : Stream) (n : ℕ) → n ≡ numberFor t (record { stream = k; ask = ask }) →
-      (n ≡ 0 → (k < 16) × Alike s (leftBy ask (tallyAt t k))) →
+      (n ≡ 0 → (k ≤ lastStream) × Alike s (leftBy ask (tallyAt t k))) →
       done ≡ givenBy ask (tallyAt t k) →
       (v : Verdict) (after : Meter) → Gives (decided n (withStream m k s)) m v after → Sound after →
       Next t (record { stream = k; ask = ask }) (changeAnswer v) after
@@ -79,8 +80,8 @@ module _ (m : Meter) (t : Tally) (h : Linked m t) where
       }
 
   -- a reading
-  same-tally : (n k : ℕ) → otherwise t (decided n (set t k (tallyAt t k))) ≡ t
-  same-tally zero k = set-getD t k freshStreamTally
+  same-tally : (n k : ℕ) → otherwise t (decided n (withTally t k (tallyAt t k))) ≡ t
+  same-tally zero k = ap (λ (l : List StreamTally). record { streams = l }) (set-getD (t .streams) k freshStreamTally)
   same-tally (suc n) k = refl
 
   reads : {A : Type 0} (f : A → Given) (k : ℕ) (ask : Ask) (o : Outcome A) (n : ℕ) (x : A) → n ≡ numberFor t (record { stream = k; ask = ask }) →

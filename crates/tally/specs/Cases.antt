@@ -56,7 +56,7 @@ cases =
     ((on 0 (metering 1000), refused 16)
     ∷ (on 0 (analysis k2), accepted done)
     ∷ (on 0 (metering 1000), accepted done)
-    ∷ (on 0 totals, accepted (totalsAre 1000 37 781616000))
+    ∷ (on 0 totals, accepted (totalsAre (record { volume = 1000; energy = record { whole = 37; rest = 781616000 } })))
     ∷ (on 0 mean, accepted (meanIs 37781616))
     ∷ [])  -- K9
     ∷ rule (record { line = 23; place = 0; superior = 2700200; inferior = 2524100; twice = 352200; atoms = 8; water = 44016; product = 352128 })  -- K10
@@ -65,7 +65,7 @@ cases =
 -- the same answer: the number of a refusal, or the figures that are given
 abbrev pub figuresOf : Given → List ℕ
 figuresOf done = []
-figuresOf (totalsAre v w r) = v ∷ w ∷ r ∷ []
+figuresOf (totalsAre t) = t .volume ∷ t .energy .whole ∷ t .energy .rest ∷ []
 figuresOf (meanIs x) = x ∷ []
 
 abbrev pub sameAnswer : Answer → Answer → Bool

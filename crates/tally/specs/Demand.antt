@@ -23,7 +23,7 @@ use Rattle.meter.specs.declared.Meter.{Meter}
 use Rattle.meter.specs.declared.TotalsAnswer.{TotalsAnswer}
 use Rattle.meter.specs.declared.MeanAnswer.{MeanAnswer}
 use Rattle.meter.specs.State.{streamAt}
-use Rattle.tally.specs.Tally.{Ask, analysis, metering, totals, mean, Call, done, Answer, Account, StreamTally, givenBy, tallyAt, freshTally, answersTo, tallied}
+use Rattle.tally.specs.Tally.{lastStream, Ask, analysis, metering, totals, mean, Call, done, Answer, Account, StreamTally, givenBy, tallyAt, freshTally, answersTo, tallied}
 use Rattle.tally.specs.Run.{AnalysisAsks, MeteringAsks, TotalsAsks, MeanAsks, FreshReturns, TotalsReturns, MeanReturns, totalsAnswer, meanAnswer, Run, ended, after}
 
 -- the volume that a call added: that of an accepted metering call
@@ -57,11 +57,13 @@ pub data SameInForce : InForce → Option (List ℕ) → Type 0 where
   known : (bs : List ℕ) (gas : Gas) → gas .combustion ≡ combustionIn bs → gas .metering ≡ meteringIn bs →
       accepted (numbers (gas .properties)) ≡ propertiesOf bs → SameInForce (Known gas) (some bs)
 
--- the booked energy E is within 2 mJ per dm³ of V from the exact energy X, and where V is above 0 the mean is within 3 J/m³ of X / V,
--- and not above the ceiling of a calorific value
-pub record AccountWithin (v : ℕ) (a : Account) : Type 0 where
-  pub energy : Within (whole (2 * v)) (a .booked) (a .exact)
-  pub mean : 0 < v → Within (whole 3) (near (a .booked) v) (dividedBy (a .exact) v)
+-- what is booked is within 2 of its unit per dm³ of V from what is exact: of energy 2 mJ per dm³
+abbrev pub AccountWithin : ℕ → Account → Type 0
+AccountWithin v a = Within (whole (2 * v)) (a .booked) (a .exact)
+
+-- where V is above 0 the mean is within 3 J/m³ of X / V, and not above the ceiling of a calorific value
+pub record MeanWithin (v : ℕ) (a : Account) : Type 0 where
+  pub distance : 0 < v → Within (whole 3) (near (a .booked) v) (dividedBy (a .exact) v)
   pub ceiling : 0 < v → near (a .booked) v ≤ calorificBound
 
 -- the stream k after the list; s is what the tally keeps for it
@@ -73,7 +75,8 @@ pub record StreamDemand (k : ℕ) (s : StreamTally) (cs : List Call) (rs : List 
   -- a reading of the mean made then answers near(E / V), or 18 where V is 0
   pub mean : (r : MeanAnswer) → MeanReturns m k r → 0 < s .volume → meanAnswer r ≡ accepted (givenBy mean s)
   pub no-mean : (r : MeanAnswer) → MeanReturns m k r → s .volume ≡ 0 → meanAnswer r ≡ refused 18
-  pub within : AccountWithin (s .volume) (s .energy)
+  pub energy-within : AccountWithin (s .volume) (s .energy)
+  pub mean-within : MeanWithin (s .volume) (s .energy)
   pub inForce : SameInForce (streamAt m k .analysis) (s .inForce)
 
 -- what the contracts require of a meter, with any other arguments
@@ -106,7 +109,7 @@ pub record Demand3 (m₀ : Meter) (cs : List Call) (rs : List Answer) (m : Meter
   -- each call is accepted where the tally accepts it, refused by the tally's number where not, and each accepted reading answers what
   -- the tally gives
   pub answers : rs ≡ answersTo freshTally cs
-  pub each : (k : ℕ) → k < 16 → StreamDemand k (tallyAt (tallied freshTally cs) k) cs rs m
+  pub each : (k : ℕ) → k ≤ lastStream → StreamDemand k (tallyAt (tallied freshTally cs) k) cs rs m
   -- each accepted analysis of the list
   pub analyses : (bs : List ℕ) → AcceptedIn bs cs rs → AnalysisShown bs
   -- each refused call and each reading of the list leaves the meter as it was, and each call every stream but the named one

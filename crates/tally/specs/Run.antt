@@ -9,6 +9,7 @@ use Rattle.records.specs.Order.{mapped}
 use Rattle.records.specs.Answers.{meaning}
 use Rattle.meter.specs.declared.Meter.{Meter}
 use Rattle.meter.specs.declared.Changed.{Changed}
+use Rattle.meter.specs.declared.Register.{Register}
 use Rattle.meter.specs.declared.StreamTotals.{StreamTotals}
 use Rattle.meter.specs.declared.TotalsAnswer.{TotalsAnswer}
 use Rattle.meter.specs.declared.MeanAnswer.{MeanAnswer}
@@ -18,7 +19,7 @@ use Rattle.meter.proofs.analysis.Reads as analysis-reads
 use Rattle.meter.proofs.metering.Reads as metering-reads
 use Rattle.meter.proofs.totals.Reads as totals-reads
 use Rattle.meter.proofs.mean.Reads as mean-reads
-use Rattle.tally.specs.Tally.{analysis, metering, totals, mean, Call, Given, done, totalsAre, meanIs, Answer}
+use Rattle.tally.specs.Tally.{analysis, metering, totals, mean, Call, Parts, Given, done, totalsAre, meanIs, Answer}
 
 -- what the contract of each function requires
 abbrev pub AnalysisAsks : Lfts 1 → Meter → ℕ → RefT (List ℕ) → Type 0
@@ -54,8 +55,11 @@ MeanReturns m k r = MeanAsks m k → mean-reads.Learnt tt (m, (k, tt)) r (m, (k,
 abbrev pub changeAnswer : Verdict → Answer
 changeAnswer v = meaning v done
 
+abbrev pub partsGiven : Register → Parts
+partsGiven e = record { whole = e .whole; rest = e .rest }
+
 abbrev pub totalsGiven : StreamTotals → Given
-totalsGiven t = totalsAre (t .volume) (t .energy .whole) (t .energy .rest)
+totalsGiven t = totalsAre (record { volume = t .volume; energy = partsGiven (t .energy) })
 
 abbrev pub totalsAnswer : TotalsAnswer → Answer
 totalsAnswer r = mapped totalsGiven (totalsMeaning r)

@@ -49,8 +49,8 @@ long c =
 properties-of-requires : tie.Need-properties-of-requires
 properties-of-requires c κs = search needs
 
-enum-known-refusal : tie.Need-enum-known-refusal
-enum-known-refusal c = search needs
+enum-known-number : tie.Need-enum-known-number
+enum-known-number c = search needs
 
 enum-known-properties : tie.Need-enum-known-properties
 enum-known-properties c = search needs
@@ -70,11 +70,11 @@ shared-slice-read-metering c = omega (arith, long (c .before .before .before .be
 pair-differs-requires : tie.Need-pair-differs-requires
 pair-differs-requires c κs = search needs
 
-pair-number-requires : tie.Need-pair-number-requires
-pair-number-requires c κs = search needs
+pair-refusal-requires : tie.Need-pair-refusal-requires
+pair-refusal-requires c κs = search needs
 
-analysed-requires : tie.Need-analysed-requires
-analysed-requires c κs = search needs
+with-gas-requires : tie.Need-with-gas-requires
+with-gas-requires c κs = search needs
 
 mul-t24 : tie.Need-mul-t24
 mul-t24 c = search needs
@@ -113,15 +113,15 @@ analysis-spec =
     tie.close
     (tie.spec
     properties-of-requires
-    enum-known-refusal
+    enum-known-number
     enum-known-properties
     mul-before
     element-copy-out-before
     shared-slice-read-combustion
     shared-slice-read-metering
     pair-differs-requires
-    pair-number-requires
-    analysed-requires
+    pair-refusal-requires
+    with-gas-requires
     mul-t24
     element-set-from-meter
     verdict-of-requires

@@ -17,7 +17,7 @@ element-copy-out-s c = search needs
 mean-over-requires : tie.Need-mean-over-requires
 mean-over-requires c κs =
     let b = c .before in
-    let s = b .before .pre .each (b .before .args .stream) (omega (arith, b .if1 .left)) in
+    let s = b .before .pre .each (b .before .args .stream) (b .if1 .left) in
     (s .energy, s .volume)
 
 returns-2 : tie.Need-returns-2

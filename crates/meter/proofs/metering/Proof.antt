@@ -9,7 +9,7 @@ use lib.Dec.{ltb}
 use Rattle.records.specs.Order.{firstOf}
 use Rattle.meter.specs.declared.Stream.{Stream}
 use Rattle.meter.specs.declared.Meter.{Meter}
-use Rattle.meter.specs.State.{SoundStream, streamAt, withStream}
+use Rattle.meter.specs.State.{lastStream, mostTotal, SoundStream, streamAt, withStream}
 use Rattle.meter.specs.Conditions.{volumeAbove, noAnalysis, volumeOrder, meteringOrder}
 use Rattle.meter.specs.Calls.{metered}
 use Rattle.meter.proofs.Orders.{metering-above, metering-number-is, clear-metering}
@@ -31,12 +31,12 @@ module _ (c : tie.Start) where
   abbrev stream : Stream
   stream = streamAt m k
 
-  sound : k ≤ 15 → SoundStream stream
-  sound low = c .pre .each k (omega arith)
+  sound : k ≤ lastStream → SoundStream stream
+  sound low = c .pre .each k low
 
   -- the number that was found on a stream up to 15
-  found : k ≤ 15 → {none : Bool} {n : ℕ} → none ≡ noAnalysis (stream .analysis) →
-      n ≡ firstOf (volumeOrder (volumeAbove w) none (ltb (999999999999 - stream .volume) w)) → n ≡ firstOf (meteringOrder k w stream)
+  found : k ≤ lastStream → {none : Bool} {n : ℕ} → none ≡ noAnalysis (stream .analysis) →
+      n ≡ firstOf (volumeOrder (volumeAbove w) none (ltb (mostTotal - stream .volume) w)) → n ≡ firstOf (meteringOrder k w stream)
   found low {none} is e = e ∙ metering-number-is k w stream none low (sound low .volume) is
 
 mul-before : tie.Need-mul-before
@@ -51,15 +51,15 @@ sub-room c = let d = c .before .before in omega (arith, sound (d .before) (d .if
 no-analysis-requires : tie.Need-no-analysis-requires
 no-analysis-requires c κs = search needs
 
-volume-number-requires : tie.Need-volume-number-requires
-volume-number-requires c κs = search needs
+volume-refusal-requires : tie.Need-volume-refusal-requires
+volume-refusal-requires c κs = search needs
 
 metered-requires : tie.Need-metered-requires
 metered-requires c κs =
     let d = c .before in
     let b = d .before .before .before .before in
     let s = b .before in
-    let free = clear-metering (k s) (w s) (stream s) (omega (arith, found s (b .if1 .taken) (d .before .no-analysis .ensures) (d .volume-number .ensures))) in
+    let free = clear-metering (k s) (w s) (stream s) (omega (arith, found s (b .if1 .taken) (d .before .no-analysis .ensures) (d .volume-refusal .ensures))) in
     (sound s (b .if1 .taken), (free .volume, free .total))
 
 mul-t18 : tie.Need-mul-t18
@@ -92,7 +92,7 @@ metering-spec =
     element-copy-out-before
     sub-room
     no-analysis-requires
-    volume-number-requires
+    volume-refusal-requires
     metered-requires
     mul-t18
     element-set-from-meter
