@@ -85,7 +85,7 @@ metering-keeps m k w v after gives h =
     s = streamAt m k
 
 -- every other stream after a call that replaces one
-others-stay : (n : ℕ) (m : Meter) (k : ℕ) (s : Stream) (v : Verdict) (after : Meter) → Gives (decided n (withStream m k s)) m v after →
+pub others-stay : (n : ℕ) (m : Meter) (k : ℕ) (s : Stream) (v : Verdict) (after : Meter) → Gives (decided n (withStream m k s)) m v after →
     (j : ℕ) → (j ≡ k → ⊥) → streamAt after j ≡ streamAt m j
 others-stay n m k s v after gives j e = ap (λ (x : Meter). streamAt x j) (gives .stands) ∙ other-stays n m k s j e
 

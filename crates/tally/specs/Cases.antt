@@ -14,7 +14,7 @@ use Rattle.records.specs.Cases.{sameList, sameOutcome, annexD, k2}
 use Rattle.records.specs.Cases as on-record
 use Rattle.properties.specs.Chain.{Six, propertiesOf}
 use Rattle.properties.specs.Cases.{sameSix, printed1, printed2}
-use Rattle.tally.specs.Tally.{Ask, analysis, metering, totals, mean, Call, Given, done, totalsAre, meanIs, Answer, Tally, freshTally, answerTo, tallyAfter}
+use Rattle.tally.specs.Tally.{analysis, metering, totals, mean, Call, on, Given, done, totalsAre, meanIs, Answer, Tally, freshTally, answerTo, tallyAfter}
 
 -- figures of the rule of the component table: a line, the place of a temperature among 25, 20, 15 and 0 °C, the line's h superior and
 -- inferior, twice their difference, its hydrogen atoms a, the superior h of water w, and a × w
@@ -43,9 +43,6 @@ pub data Case : Type 0 where
 abbrev pub eachNumber : List on-record.Case → List Case → List Case
 eachNumber [] more = more
 eachNumber (c ∷ cs) more = number c ∷ eachNumber cs more
-
-abbrev pub on : ℕ → Ask → Call
-on k ask = record { stream = k; ask = ask }
 
 abbrev pub cases : List Case
 cases =

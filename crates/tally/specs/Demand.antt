@@ -23,7 +23,7 @@ use Rattle.meter.specs.declared.Meter.{Meter}
 use Rattle.meter.specs.declared.TotalsAnswer.{TotalsAnswer}
 use Rattle.meter.specs.declared.MeanAnswer.{MeanAnswer}
 use Rattle.meter.specs.State.{streamAt}
-use Rattle.tally.specs.Tally.{lastStream, Ask, analysis, metering, totals, mean, Call, done, Answer, Account, StreamTally, givenBy, tallyAt, freshTally, answersTo, tallied}
+use Rattle.tally.specs.Tally.{lastStream, Ask, analysis, metering, totals, mean, Call, on, done, Answer, Account, StreamTally, givenBy, tallyAt, freshTally, answersTo, tallied}
 use Rattle.tally.specs.Run.{AnalysisAsks, MeteringAsks, TotalsAsks, MeanAsks, FreshReturns, TotalsReturns, MeanReturns, totalsAnswer, meanAnswer, Run, ended, after}
 
 -- the volume that a call added: that of an accepted metering call
@@ -42,7 +42,7 @@ acceptedVolume k (c ∷ cs) (a ∷ rs) = cond (eqb (c .stream) k) (addedBy (c .a
 
 -- an analysis with the record bs stands in the list, and was accepted
 pub data AcceptedIn (bs : List ℕ) : List Call → List Answer → Type 0 where
-  here : (k : ℕ) (cs : List Call) (rs : List Answer) → AcceptedIn bs (record { stream = k; ask = analysis bs } ∷ cs) (accepted done ∷ rs)
+  here : (k : ℕ) (cs : List Call) (rs : List Answer) → AcceptedIn bs (on k (analysis bs) ∷ cs) (accepted done ∷ rs)
   later : (c : Call) (a : Answer) (cs : List Call) (rs : List Answer) → AcceptedIn bs cs rs → AcceptedIn bs (c ∷ cs) (a ∷ rs)
 
 -- what a record reads as, with its properties, their ceilings and their distances from the unrounded formula
@@ -99,10 +99,16 @@ pub record Leaves (m : Meter) (c : Call) (a : Answer) (m₁ : Meter) : Type 0 wh
   pub reading : isReading (c .ask) ≡ true → m₁ ≡ m
   pub others : (j : ℕ) → (j ≡ c .stream → ⊥) → streamAt m₁ j ≡ streamAt m j
 
--- each call of a list, on the meter as the call before it returned or left it
+-- each call that a step counts as; between two of them there is a meter
+pub data StepLeaves : Meter → List Call → List Answer → Meter → Type 0 where
+  no-call : (m : Meter) → StepLeaves m [] [] m
+  next-call : (m m₁ m₂ : Meter) (c : Call) (a : Answer) (cs : List Call) (rs : List Answer) → Leaves m c a m₁ → StepLeaves m₁ cs rs m₂ →
+      StepLeaves m (c ∷ cs) (a ∷ rs) m₂
+
+-- each step of a list, on the meter as the one before it returned or left it
 unfoldable pub EachLeaves : (m : Meter) (cs : List Call) (rs : List Answer) (m' : Meter) → Run m cs rs m' → Type 0
 EachLeaves m cs rs m' (ended m₁) = Unit
-EachLeaves m cs rs m' (after m₀ m₁ m₂ c a cs₁ rs₁ s more) = Leaves m₀ c a m₁ × EachLeaves m₁ cs₁ rs₁ m₂ more
+EachLeaves m cs rs m' (after m₀ m₁ m₂ cs₁ cs₂ rs₁ rs₂ s more) = StepLeaves m₀ cs₁ rs₁ m₁ × EachLeaves m₁ cs₂ rs₂ m₂ more
 
 -- the list cs from the meter m₀, with the answers rs and the meter m after it
 pub record Demand3 (m₀ : Meter) (cs : List Call) (rs : List Answer) (m : Meter) (ran : Run m₀ cs rs m) : Type 0 where

@@ -39,6 +39,9 @@ pub record Call : Type 0 where
   pub stream : ℕ
   pub ask : Ask
 
+abbrev pub on : ℕ → Ask → Call
+on k ask = record { stream = k; ask = ask }
+
 -- an amount in two parts
 pub record Parts : Type 0 where
   pub whole : ℕ
