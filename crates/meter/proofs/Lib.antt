@@ -1,4 +1,4 @@
-pub mod Outcomes
+mod Outcomes
 pub mod Orders
 pub mod Registers
 pub mod Streams

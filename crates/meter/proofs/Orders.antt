@@ -37,7 +37,7 @@ pub not-above : {k : ℕ} (rest : Order) → k ≤ lastStream → firstOf rest �
 not-above {k} rest h = rw (le-ltb lastStream k h)
 
 -- 17 without the sum
-pub passes-room : (limit total v : ℕ) → total ≤ limit → ltb (limit - total) v ≡ ltb limit (total + v)
+passes-room : (limit total v : ℕ) → total ≤ limit → ltb (limit - total) v ≡ ltb limit (total + v)
 passes-room limit total v h = go (ltb (limit - total) v) refl
   where
     go : (b : Bool) → ltb (limit - total) v ≡ b → ltb (limit - total) v ≡ ltb limit (total + v)

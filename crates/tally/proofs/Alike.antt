@@ -31,7 +31,7 @@ use Rattle.tally.specs.Run.{partsGiven, totalsGiven}
 use Rattle.tally.specs.Demand.{AccountWithin, SameInForce, nothing, known}
 
 -- the pair of a record in force
-abbrev pub pairOf : Option (List ℕ) → Option (ℕ × ℕ)
+abbrev pairOf : Option (List ℕ) → Option (ℕ × ℕ)
 pairOf none = none
 pairOf (some bs) = some (combustionIn bs, meteringIn bs)
 

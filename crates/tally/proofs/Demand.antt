@@ -9,7 +9,7 @@ use lib.ListN.{drop}
 use Rattle.rounding.specs.Near.{near}
 use Rattle.rounding.specs.Fraction.{Fraction, whole, dividedBy, Within}
 use Rattle.rounding.proofs.NearLaws.{near-half}
-use Rattle.records.specs.Order.{firstOf, refused, accepted, decided}
+use Rattle.records.specs.Order.{firstOf, accepted, decided}
 use Rattle.records.specs.Format.{combustionIn, meteringIn, contentsIn}
 use Rattle.records.specs.Calls.{readingOf}
 use Rattle.records.proofs.OrderLaws.{decided-accepted}

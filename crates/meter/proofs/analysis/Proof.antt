@@ -46,44 +46,11 @@ long c =
     let s = a .before .before .before in
     record-head (bs s) (c .properties .given .0 .0) (is-accepted s (a .properties-of .ensures) (c .properties .given .1))
 
-properties-of-requires : tie.Need-properties-of-requires
-properties-of-requires c κs = search needs
-
-enum-known-number : tie.Need-enum-known-number
-enum-known-number c = search needs
-
-enum-known-properties : tie.Need-enum-known-properties
-enum-known-properties c = search needs
-
-mul-before : tie.Need-mul-before
-mul-before c = search needs
-
-element-copy-out-before : tie.Need-element-copy-out-before
-element-copy-out-before c = search needs
-
 shared-slice-read-combustion : tie.Need-shared-slice-read-combustion
 shared-slice-read-combustion c = omega (arith, long (c .before .before .before) .long)
 
 shared-slice-read-metering : tie.Need-shared-slice-read-metering
 shared-slice-read-metering c = omega (arith, long (c .before .before .before .before) .long)
-
-pair-differs-requires : tie.Need-pair-differs-requires
-pair-differs-requires c κs = search needs
-
-pair-refusal-requires : tie.Need-pair-refusal-requires
-pair-refusal-requires c κs = search needs
-
-with-gas-requires : tie.Need-with-gas-requires
-with-gas-requires c κs = search needs
-
-mul-t24 : tie.Need-mul-t24
-mul-t24 c = search needs
-
-element-set-from-meter : tie.Need-element-set-from-meter
-element-set-from-meter c = search needs
-
-verdict-of-requires : tie.Need-verdict-of-requires
-verdict-of-requires c κs = search needs
 
 returns : tie.Need-returns
 returns c =
@@ -112,17 +79,17 @@ pub analysis-spec : {M : Type 1} → statement M
 analysis-spec =
     tie.close
     (tie.spec
-    properties-of-requires
-    enum-known-number
-    enum-known-properties
-    mul-before
-    element-copy-out-before
+    (λ c κs. search needs)
+    (λ c. search needs)
+    (λ c. search needs)
+    (λ c. search needs)
+    (λ c. search needs)
     shared-slice-read-combustion
     shared-slice-read-metering
-    pair-differs-requires
-    pair-refusal-requires
-    with-gas-requires
-    mul-t24
-    element-set-from-meter
-    verdict-of-requires
+    (λ c κs. search needs)
+    (λ c κs. search needs)
+    (λ c κs. search needs)
+    (λ c. search needs)
+    (λ c. search needs)
+    (λ c κs. search needs)
     returns)

@@ -19,14 +19,8 @@ stream-is : (s : Stream) (v : ℕ) {e : Register} → e ≡ metered s v .energy 
     _≡_ {A = Stream} (record { analysis = s .analysis; volume = s .volume + v; energy = e }) (metered s v)
 stream-is s v p = λ i. record { analysis = s .analysis; volume = s .volume + v; energy = p i }
 
-hs-in-force-requires : tie.Need-hs-in-force-requires
-hs-in-force-requires c κs = search needs
-
 booked-requires : tie.Need-booked-requires
 booked-requires c κs = let p = c .before .pre in ((p .0 .energy .rest, omega arith, omega (arith, p .0 .energy .amount, p .0 .volume)), (p .1 .0, omega (arith, c .hs-in-force .ensures, p .0 .Hs)))
-
-add-t5 : tie.Need-add-t5
-add-t5 c = search needs
 
 returns : tie.Need-returns
 returns c =
@@ -35,4 +29,4 @@ returns c =
     stream-is (a .before) (a .volume) (fed perMJ (a .before .energy) (a .volume) (b .booked .ensures) (b .before .hs-in-force .ensures))
 
 pub metered-spec : {M : Type 1} → statement M
-metered-spec = tie.close (tie.spec hs-in-force-requires booked-requires add-t5 returns)
+metered-spec = tie.close (tie.spec (λ c κs. search needs) booked-requires (λ c. search needs) returns)

@@ -39,20 +39,8 @@ module _ (c : tie.Start) where
       n ≡ firstOf (volumeOrder (volumeAbove w) none (ltb (mostTotal - stream .volume) w)) → n ≡ firstOf (meteringOrder k w stream)
   found low {none} is e = e ∙ metering-number-is k w stream none low (sound low .volume) is
 
-mul-before : tie.Need-mul-before
-mul-before c = search needs
-
-element-copy-out-before : tie.Need-element-copy-out-before
-element-copy-out-before c = search needs
-
 sub-room : tie.Need-sub-room
 sub-room c = let d = c .before .before in omega (arith, sound (d .before) (d .if1 .taken) .volume)
-
-no-analysis-requires : tie.Need-no-analysis-requires
-no-analysis-requires c κs = search needs
-
-volume-refusal-requires : tie.Need-volume-refusal-requires
-volume-refusal-requires c κs = search needs
 
 metered-requires : tie.Need-metered-requires
 metered-requires c κs =
@@ -61,15 +49,6 @@ metered-requires c κs =
     let s = b .before in
     let free = clear-metering (k s) (w s) (stream s) (omega (arith, found s (b .if1 .taken) (d .before .no-analysis .ensures) (d .volume-refusal .ensures))) in
     (sound s (b .if1 .taken), (free .volume, free .total))
-
-mul-t18 : tie.Need-mul-t18
-mul-t18 c = search needs
-
-element-set-from-meter : tie.Need-element-set-from-meter
-element-set-from-meter c = search needs
-
-verdict-of-requires : tie.Need-verdict-of-requires
-verdict-of-requires c κs = search needs
 
 returns : tie.Need-returns
 returns c =
@@ -88,13 +67,13 @@ pub metering-spec : {M : Type 1} → statement M
 metering-spec =
     tie.close
     (tie.spec
-    mul-before
-    element-copy-out-before
+    (λ c. search needs)
+    (λ c. search needs)
     sub-room
-    no-analysis-requires
-    volume-refusal-requires
+    (λ c κs. search needs)
+    (λ c κs. search needs)
     metered-requires
-    mul-t18
-    element-set-from-meter
-    verdict-of-requires
+    (λ c. search needs)
+    (λ c. search needs)
+    (λ c κs. search needs)
     returns)
