@@ -1,5 +1,5 @@
 -- What is shown of every meter.
-use mathlib.Core.Path.{_≡_, refl, sym, ap, subst, _∙_}
+use mathlib.Core.Path.{_≡_, refl, sym, subst, _∙_}
 use mathlib.Core.Bool.{Bool, true, false, cond}
 use mathlib.Core.List.{List}
 use Prim.Native.Nat.{ℕ, zero, suc, _+_, _≤_}
@@ -10,7 +10,7 @@ use lib.Dec.{eqb}
 use lib.ListN.{length-set}
 use lib.Seq.{getD-set-other}
 use Rattle.records.specs.declared.Verdict.{Verdict}
-use Rattle.records.specs.Order.{firstOf, otherwise, decided}
+use Rattle.records.specs.Order.{firstOf, decided}
 use Rattle.records.specs.Format.{contentsIn}
 use Rattle.records.specs.Conditions.{recordOrder}
 use Rattle.records.specs.Answers.{Gives}
@@ -30,11 +30,6 @@ use Rattle.meter.proofs.Registers.{sound-booked}
 use Rattle.meter.proofs.Streams.{at-made, at-put}
 use Rattle.meter.proofs.Means.{mean-bounded}
 
--- another stream than the one that a call replaces
-other-stays : (n : ℕ) (m : Meter) (k : ℕ) (s : Stream) (j : ℕ) → (j ≡ k → ⊥) → streamAt (otherwise m (decided n (withStream m k s))) j ≡ streamAt m j
-other-stays zero m k s j e = getD-set-other (m .streams) k j s freshStream e
-other-stays (suc n) m k s j e = refl
-
 pub fresh-is-sound : FreshIsSound
 fresh-is-sound = record { count = refl; each = λ k b. rw (at-made freshStream 16 k) (omega arith) }
 
@@ -51,13 +46,10 @@ with-sound m k s h sound =
     at j c false = h .each j c
 
 -- a call that replaces one stream where its number is 0
-otherwise-sound : (n : ℕ) (m : Meter) (k : ℕ) (s : Stream) → Sound m → (n ≡ 0 → SoundStream s) → Sound (otherwise m (decided n (withStream m k s)))
-otherwise-sound zero m k s h new = with-sound m k s h (new refl)
-otherwise-sound (suc n) m k s h new = h
-
 kept : (n : ℕ) (m : Meter) (k : ℕ) (s : Stream) (v : Verdict) (after : Meter) → Gives (decided n (withStream m k s)) m v after → Sound m →
     (n ≡ 0 → SoundStream s) → Sound after
-kept n m k s v after gives h new = subst Sound (sym (gives .stands)) (otherwise-sound n m k s h new)
+kept zero m k s v after gives h new = subst Sound (sym (gives .stands)) (with-sound m k s h (new refl))
+kept (suc n) m k s v after gives h new = subst Sound (sym (gives .stands)) h
 
 hs-bounded : (bs : List ℕ) → firstOf (recordOrder bs) ≡ 0 → chain.Hs (contentsIn bs) ≤ calorificBound
 hs-bounded bs clear = bounded (contentsIn bs) (acceptable bs clear) .Hs
@@ -87,7 +79,8 @@ metering-keeps m k w v after gives h =
 -- every other stream after a call that replaces one
 pub others-stay : (n : ℕ) (m : Meter) (k : ℕ) (s : Stream) (v : Verdict) (after : Meter) → Gives (decided n (withStream m k s)) m v after →
     (j : ℕ) → (j ≡ k → ⊥) → streamAt after j ≡ streamAt m j
-others-stay n m k s v after gives j e = ap (λ (x : Meter). streamAt x j) (gives .stands) ∙ other-stays n m k s j e
+others-stay zero m k s v after gives j e = rw (gives .stands) (getD-set-other (m .streams) k j s freshStream e)
+others-stay (suc n) m k s v after gives j e = rw (gives .stands)
 
 pub analysis-leaves-others : AnalysisLeavesOthers
 analysis-leaves-others m k bs v after = others-stay (firstOf (analysisOrder k bs (streamAt m k))) m k (analysed (streamAt m k) bs) v after

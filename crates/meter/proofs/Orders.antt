@@ -27,11 +27,8 @@ pub mean-numbers : MeanNumbers
 mean-numbers k s = refl
 
 -- 13, which every call tries first
-pub analysis-above : (k : ℕ) (bs : List ℕ) (s : Stream) → lastStream < k → 13 ≡ firstOf (analysisOrder k bs s)
-analysis-above k bs s h = rw (lt-ltb lastStream k h)
-
-pub metering-above : (k v : ℕ) (s : Stream) → lastStream < k → 13 ≡ firstOf (meteringOrder k v s)
-metering-above k v s h = rw (lt-ltb lastStream k h)
+pub above : {k : ℕ} (rest : Order) → lastStream < k → 13 ≡ firstOf ((13, ltb lastStream k) ∷ rest)
+above {k} rest h = rw (lt-ltb lastStream k h)
 
 pub not-above : {k : ℕ} (rest : Order) → k ≤ lastStream → firstOf rest ≡ firstOf ((13, ltb lastStream k) ∷ rest)
 not-above {k} rest h = rw (le-ltb lastStream k h)

@@ -20,7 +20,7 @@ use Rattle.meter.specs.State.{Sound, freshStream, freshMeter, streamAt}
 use Rattle.meter.proofs.Orders.{record-clear}
 use Rattle.meter.proofs.Streams.{at-made}
 use Rattle.meter.proofs.Kept.{fresh-is-sound, no-mean-above-ceiling}
-use Rattle.tally.specs.Tally.{lastStream, analysis, Call, done, Answer, StreamTally, freshStreamTally, Tally, freshTally, tallyAt, above15, otherPair, orderOf, tallyAfter, answersTo, tallied}
+use Rattle.tally.specs.Tally.{lastStream, analysis, Call, done, Answer, StreamTally, freshStreamTally, Tally, freshTally, tallyAt, aboveLast, otherPair, orderOf, tallyAfter, answersTo, tallied}
 use Rattle.tally.specs.Run.{Run, ended, after, by-totals, by-mean}
 use Rattle.tally.specs.Demand.{acceptedVolume, AcceptedIn, here, later, AnalysisShown, nothing, no-call, EachLeaves, Claim}
 use Rattle.tally.proofs.Alike.{Alike}
@@ -66,7 +66,7 @@ each-leaves m cs rs m₂ t h (after m₀ m₁ m₃ cs₁ cs₂ rs₁ rs₂ s mor
 -- an accepted analysis of the list
 analysis-shown : (bs : List ℕ) (k : ℕ) (s : StreamTally) → firstOf (orderOf k (analysis bs) s) ≡ 0 → AnalysisShown bs
 analysis-shown bs k s z =
-    let clear = record-clear bs (above15 k) (otherPair (s .pair) (combustionIn bs) (meteringIn bs)) z in
+    let clear = record-clear bs (aboveLast k) (otherPair (s .pair) (combustionIn bs) (meteringIn bs)) z in
     let reads : readingOf bs ≡ accepted (contentsIn bs) = ap (λ (n : ℕ). decided n (contentsIn bs)) clear in
     record { contents = contentsIn bs; reads = reads; shown = every-accepted-record bs (contentsIn bs) reads }
 

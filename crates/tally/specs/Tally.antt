@@ -102,8 +102,8 @@ abbrev pub withTally : Tally → ℕ → StreamTally → Tally
 withTally t k s = record { streams = set (t .streams) k s }
 
 -- the conditions 13 to 18 over what the tally keeps, written apart from those of the meter. 13: stream above 15
-abbrev pub above15 : ℕ → Bool
-above15 k = ltb lastStream k
+abbrev pub aboveLast : ℕ → Bool
+aboveLast k = ltb lastStream k
 
 -- 14: pair is not the stream's; while there is no pair, it does not hold
 abbrev pub otherPair : Option (ℕ × ℕ) → ℕ → ℕ → Bool
@@ -130,10 +130,10 @@ noVolume total = eqb total 0
 -- the conditions in the call's order, on the stream k with the tally's own pair, record and V: analysis 13, 1 to 12, 14; metering
 -- 13, 15, 16, 17; totals 13; mean 13, 18
 abbrev pub orderOf : ℕ → Ask → StreamTally → Order
-orderOf k (analysis bs) s = (13, above15 k) ∷ recordOrder bs ++ ((14, otherPair (s .pair) (combustionIn bs) (meteringIn bs)) ∷ [])
-orderOf k (metering v) s = (13, above15 k) ∷ (15, largeVolume v) ∷ (16, noRecord (s .inForce)) ∷ (17, wouldPass (s .volume) v) ∷ []
-orderOf k totals s = (13, above15 k) ∷ []
-orderOf k mean s = (13, above15 k) ∷ (18, noVolume (s .volume)) ∷ []
+orderOf k (analysis bs) s = (13, aboveLast k) ∷ recordOrder bs ++ ((14, otherPair (s .pair) (combustionIn bs) (meteringIn bs)) ∷ [])
+orderOf k (metering v) s = (13, aboveLast k) ∷ (15, largeVolume v) ∷ (16, noRecord (s .inForce)) ∷ (17, wouldPass (s .volume) v) ∷ []
+orderOf k totals s = (13, aboveLast k) ∷ []
+orderOf k mean s = (13, aboveLast k) ∷ (18, noVolume (s .volume)) ∷ []
 
 -- an accepted volume v: V grows by v, E by v × Hs, X by v × the unrounded Hs, both of the record in force; with no record, 16 has
 -- refused it

@@ -5,6 +5,7 @@ use mathlib.Core.Logic.{⊎-elim}
 use Prim.Native.Nat.{ℕ}
 use native.Mathlib.Omega.{arith}
 use borrow.Author.Needs.{needs}
+use lib.ListN.{drop}
 use Rattle.records.specs.Order.{refused, accepted}
 use Rattle.records.proofs.Heads.{Head}
 use Rattle.properties.specs.declared.Answer.{Answer}
@@ -15,8 +16,9 @@ use Rattle.properties.specs.Answers.{numbers, meaning}
 use Rattle.properties.proofs.Outcomes.{number-of-refused}
 use Rattle.meter.specs.declared.Meter.{Meter}
 use Rattle.meter.specs.State.{streamAt, withStream}
+use Rattle.meter.specs.Conditions.{analysisOrder}
 use Rattle.meter.specs.Calls.{withGas, analysed}
-use Rattle.meter.proofs.Orders.{analysis-above}
+use Rattle.meter.proofs.Orders.{above}
 use Rattle.meter.proofs.Outcomes.{gives-refusal, gives-answer, written}
 use Rattle.meter.proofs.Analyses.{gas-is, record-head, record-refused, record-accepted}
 use Rattle.meter.proofs.analysis.Statement.{statement}
@@ -72,7 +74,7 @@ returns c =
     (λ x.
     let e = is-accepted s (x .1 .ensures) (x .3 .given .1) in
     gives-refusal new (m s) v (x .12 ∙ record-accepted (m s) (k s) (bs s) (x .0 .taken) _ e (x .8 .ensures) (x .9 .ensures)) (λ z. omega (arith, x .12, x .10 .left)) (x .11))
-    (λ x. gives-refusal new (m s) v (x .2 ∙ analysis-above (k s) (bs s) old (x .0 .left)) (λ z. omega (arith, x .2)) (x .1))))
+    (λ x. gives-refusal new (m s) v (x .2 ∙ above (drop 1 (analysisOrder (k s) (bs s) old)) (x .0 .left)) (λ z. omega (arith, x .2)) (x .1))))
     (j .if1 .came)
 
 pub analysis-spec : {M : Type 1} → statement M

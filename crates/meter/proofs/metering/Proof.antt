@@ -6,13 +6,14 @@ use Prim.Native.Nat.{ℕ, _-_, _≤_}
 use native.Mathlib.Omega.{arith}
 use borrow.Author.Needs.{needs}
 use lib.Dec.{ltb}
+use lib.ListN.{drop}
 use Rattle.records.specs.Order.{firstOf}
 use Rattle.meter.specs.declared.Stream.{Stream}
 use Rattle.meter.specs.declared.Meter.{Meter}
 use Rattle.meter.specs.State.{lastStream, mostTotal, SoundStream, streamAt, withStream}
 use Rattle.meter.specs.Conditions.{volumeAbove, noAnalysis, volumeOrder, meteringOrder}
 use Rattle.meter.specs.Calls.{metered}
-use Rattle.meter.proofs.Orders.{metering-above, metering-number-is, clear-metering}
+use Rattle.meter.proofs.Orders.{above, metering-number-is, clear-metering}
 use Rattle.meter.proofs.Outcomes.{gives-refusal, gives-answer, written}
 use Rattle.meter.proofs.metering.Statement.{statement}
 use Rattle.meter.proofs.metering.Tie as tie
@@ -60,7 +61,7 @@ returns c =
     (λ x. gives-answer new (m s) v (x .8 ∙ found s (x .0 .taken) (x .3 .ensures) (x .4 .ensures)) (omega arith) (written (m s) (k s) (x .7) (omega arith) (x .6 .ensures)))
     (⊎-elim
     (λ x. gives-refusal new (m s) v (x .7 ∙ found s (x .0 .taken) (x .3 .ensures) (x .4 .ensures)) (λ z. omega arith) (x .6))
-    (λ x. gives-refusal new (m s) v (x .2 ∙ metering-above (k s) (w s) (stream s) (x .0 .left)) (λ z. omega (arith, x .2)) (x .1)))
+    (λ x. gives-refusal new (m s) v (x .2 ∙ above (drop 1 (meteringOrder (k s) (w s) (stream s))) (x .0 .left)) (λ z. omega (arith, x .2)) (x .1)))
     (j .if1 .came)
 
 pub metering-spec : {M : Type 1} → statement M
