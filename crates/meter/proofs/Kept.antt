@@ -60,7 +60,7 @@ analysis-keeps m k bs v after gives h =
     (λ z.
     let c = clear-analysis k bs s z in
     let old = h .each k (c .stream) in
-    record { Hs = hs-bounded bs (c .clear); volume = old .volume; energy = old .energy })
+    record { Hs = hs-bounded bs (c .clear); totals = old .totals })
   where
     s : Stream
     s = streamAt m k
@@ -71,7 +71,8 @@ metering-keeps m k w v after gives h =
     (λ z.
     let c = clear-metering k w s z in
     let old = h .each k (c .stream) in
-    record { Hs = old .Hs; volume = c .total; energy = sound-booked perMJ (omega arith) calorificBound (s .volume) w _ (s .energy) (old .energy) (mul-le-mul-left w (old .Hs)) })
+    let t = s .totals in
+    record { Hs = old .Hs; totals = record { volume = c .total; energy = sound-booked perMJ (omega arith) calorificBound (t .volume) w _ (t .energy) (old .totals .energy) (mul-le-mul-left w (old .Hs)) } })
   where
     s : Stream
     s = streamAt m k
@@ -90,13 +91,14 @@ metering-leaves-others m k w v after = others-stay (firstOf (meteringOrder k w (
 
 pub zero-is-accepted : ZeroIsAccepted
 zero-is-accepted m k h b some =
-    rw (le-ltb lastStream k b, some, le-ltb mostTotal (streamAt m k .volume + 0) (omega (arith, h .each k b .volume)))
+    rw (le-ltb lastStream k b, some, le-ltb mostTotal (streamAt m k .totals .volume + 0) (omega (arith, h .each k b .totals .volume)))
 
 pub no-mean-above-ceiling : NoMeanAboveCeiling
 no-mean-above-ceiling m k h sound e =
     let s = streamAt m k in
-    let a = decided-accepted (firstOf (meanOrder k s)) (meanIn (s .energy) (s .volume)) h e in
+    let t = s .totals in
+    let a = decided-accepted (firstOf (meanOrder k s)) (meanIn (t .energy) (t .volume)) h e in
     let o = unmet (meanOrder k s) tt (a .0) in
-    let z = eqb-false (s .volume) 0 (o 18) in
-    let l = sound .each k (ltb-false lastStream k (o 13)) in
-    subst (λ (x : ℕ). x ≤ calorificBound) (a .1) (mean-bounded (s .energy) (s .volume) (l .energy) (l .volume) (omega arith))
+    let z = eqb-false (t .volume) 0 (o 18) in
+    let l = sound .each k (ltb-false lastStream k (o 13)) .totals in
+    subst (λ (x : ℕ). x ≤ calorificBound) (a .1) (mean-bounded (t .energy) (t .volume) (l .energy) (l .volume) (omega arith))

@@ -42,9 +42,9 @@ passes-room limit total v h = go (ltb (limit - total) v) refl
     go false e = e ∙ sym (le-ltb limit (total + v) (omega (arith, ltb-false (limit - total) v e)))
 
 -- the number of a metering call on a stream up to 15
-pub metering-number-is : (k v : ℕ) (s : Stream) (none : Bool) → k ≤ lastStream → s .volume ≤ mostTotal → none ≡ noAnalysis (s .analysis) →
-    firstOf (volumeOrder (volumeAbove v) none (ltb (mostTotal - s .volume) v)) ≡ firstOf (meteringOrder k v s)
-metering-number-is k v s none low total is = rw (le-ltb lastStream k low, is, passes-room mostTotal (s .volume) v total)
+pub metering-number-is : (k v : ℕ) (s : Stream) (none : Bool) → k ≤ lastStream → s .totals .volume ≤ mostTotal → none ≡ noAnalysis (s .analysis) →
+    firstOf (volumeOrder (volumeAbove v) none (ltb (mostTotal - s .totals .volume) v)) ≡ firstOf (meteringOrder k v s)
+metering-number-is k v s none low total is = rw (le-ltb lastStream k low, is, passes-room mostTotal (s .totals .volume) v total)
 
 -- an accepted analysis: the record's part of the order, from whether 13 and 14 hold
 pub record-clear : (bs : List ℕ) (thirteen fourteen : Bool) → firstOf ((13, thirteen) ∷ recordOrder bs ++ ((14, fourteen) ∷ [])) ≡ 0 → firstOf (recordOrder bs) ≡ 0
@@ -66,9 +66,9 @@ pub record ClearMetering (k v : ℕ) (s : Stream) : Type 0 where
   pub stream : k ≤ lastStream
   pub volume : v ≤ mostVolume
   pub analysed : noAnalysis (s .analysis) ≡ false
-  pub total : s .volume + v ≤ mostTotal
+  pub total : s .totals .volume + v ≤ mostTotal
 
 pub clear-metering : (k v : ℕ) (s : Stream) → firstOf (meteringOrder k v s) ≡ 0 → ClearMetering k v s
 clear-metering k v s h =
     let free = unmet (meteringOrder k v s) tt h in
-    record { stream = ltb-false lastStream k (free 13); volume = ltb-false mostVolume v (free 15); analysed = free 16; total = ltb-false mostTotal (s .volume + v) (free 17) }
+    record { stream = ltb-false lastStream k (free 13); volume = ltb-false mostVolume v (free 15); analysed = free 16; total = ltb-false mostTotal (s .totals .volume + v) (free 17) }

@@ -53,13 +53,13 @@ abbrev pub analysisOrder : ℕ → List ℕ → Stream → Order
 analysisOrder k bs s = (13, streamAbove k) ∷ recordOrder bs ++ pairOrder (pairDiffers (s .analysis) (combustionIn bs) (meteringIn bs))
 
 abbrev pub meteringOrder : ℕ → ℕ → Stream → Order
-meteringOrder k v s = (13, streamAbove k) ∷ volumeOrder (volumeAbove v) (noAnalysis (s .analysis)) (totalPasses (s .volume) v)
+meteringOrder k v s = (13, streamAbove k) ∷ volumeOrder (volumeAbove v) (noAnalysis (s .analysis)) (totalPasses (s .totals .volume) v)
 
 abbrev pub totalsOrder : ℕ → Order
 totalsOrder k = (13, streamAbove k) ∷ []
 
 abbrev pub meanOrder : ℕ → Stream → Order
-meanOrder k s = (13, streamAbove k) ∷ zeroOrder (totalZero (s .volume))
+meanOrder k s = (13, streamAbove k) ∷ zeroOrder (totalZero (s .totals .volume))
 
 -- analysis tries 13, 1 to 12, 14; metering 13, 15, 16, 17; totals 13; mean 13, 18
 abbrev pub AnalysisNumbers : Type 0

@@ -6,6 +6,7 @@ use Rattle.properties.specs.Quantities.{calorificBound}
 use Rattle.meter.specs.declared.InForce.{InForce}
 use Rattle.meter.specs.declared.InForce.the-variants.{Nothing, Known}
 use Rattle.meter.specs.declared.Register.{Register}
+use Rattle.meter.specs.declared.StreamTotals.{StreamTotals}
 use Rattle.meter.specs.declared.Stream.{Stream}
 use Rattle.meter.specs.declared.Meter.{Meter}
 
@@ -26,7 +27,7 @@ perMJ = 1000000000
 
 -- no analysis, volume 0, energy 0
 abbrev pub freshStream : Stream
-freshStream = record { analysis = Nothing; volume = 0; energy = record { whole = 0; rest = 0 } }
+freshStream = record { analysis = Nothing; totals = record { volume = 0; energy = record { whole = 0; rest = 0 } } }
 
 -- 16 streams, 0 to 15
 abbrev pub freshMeter : Meter
@@ -54,11 +55,15 @@ pub record SoundRegister (u ceiling v : ℕ) (e : Register) : Type 0 where
   pub rest : e .rest < u
   pub amount : amountIn u e ≤ v * ceiling
 
+-- what holds of the totals of every stream
+pub record SoundTotals (t : StreamTotals) : Type 0 where
+  pub volume : t .volume ≤ mostTotal
+  pub energy : SoundRegister perMJ calorificBound (t .volume) (t .energy)
+
 -- what holds of every stream
 pub record SoundStream (s : Stream) : Type 0 where
   pub Hs : hsOf (s .analysis) ≤ calorificBound
-  pub volume : s .volume ≤ mostTotal
-  pub energy : SoundRegister perMJ calorificBound (s .volume) (s .energy)
+  pub totals : SoundTotals (s .totals)
 
 -- what holds of every meter, as made or as its calls left it
 pub record Sound (m : Meter) : Type 0 where

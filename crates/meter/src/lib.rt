@@ -43,11 +43,16 @@ pub struct Register {
     pub rest: u64,
 }
 
-// A stream: the analysis in force, the volume total in dm³, and the energy.
+// The totals of a stream: the volume in dm³, and the energy.
+pub struct StreamTotals {
+    pub volume: u64,
+    pub energy: Register,
+}
+
+// A stream: the analysis in force, and the totals.
 pub struct Stream {
     analysis: InForce,
-    volume: u64,
-    energy: Register,
+    totals: StreamTotals,
 }
 
 // Sixteen streams, 0 to 15.
@@ -59,12 +64,6 @@ pub struct Meter {
 pub struct Changed {
     pub meter: Meter,
     pub verdict: Verdict,
-}
-
-// The totals of a stream: the volume in dm³, and the energy.
-pub struct StreamTotals {
-    pub volume: u64,
-    pub energy: Register,
 }
 
 // The totals, or document 01's number.
@@ -85,8 +84,10 @@ pub fn fresh() -> Meter
 {
     let stream = Stream {
         analysis: InForce::Nothing,
-        volume: 0,
-        energy: Register { whole: 0, rest: 0 },
+        totals: StreamTotals {
+            volume: 0,
+            energy: Register { whole: 0, rest: 0 },
+        },
     };
     Meter {
         streams: [stream; 16],
@@ -117,11 +118,10 @@ fn pair_refusal(fourteen: bool) -> u8
 fn with_gas(before: Stream, gas: Gas) -> Stream
     ensures { λ r. ⌜ r ≡ withGas before gas ⌝ }
 {
-    let energy = before.energy;
+    let totals = before.totals;
     Stream {
         analysis: InForce::Known(gas),
-        volume: before.volume,
-        energy,
+        totals,
     }
 }
 
@@ -211,15 +211,17 @@ fn booked(before: Register, unit: u64, volume: u64, value: u64) -> Register
 // The stream with the volume, and volume × Hs in mJ, added.
 fn metered(before: Stream, volume: u64) -> Stream
     requires { ⌜ SoundStream before ⌝ }
-    requires { ⌜ (volume ≤ mostVolume) × (before .volume + volume ≤ mostTotal) ⌝ }
+    requires { ⌜ (volume ≤ mostVolume) × (before .totals .volume + volume ≤ mostTotal) ⌝ }
     ensures { λ r. ⌜ r ≡ metered before volume ⌝ }
 {
     let analysis = before.analysis;
-    let energy = booked(before.energy, PER_MJ, volume, hs_in_force(analysis));
+    let energy = booked(before.totals.energy, PER_MJ, volume, hs_in_force(analysis));
     Stream {
         analysis,
-        volume: before.volume + volume,
-        energy,
+        totals: StreamTotals {
+            volume: before.totals.volume + volume,
+            energy,
+        },
     }
 }
 
@@ -232,7 +234,7 @@ pub fn metering(mut meter: Meter, stream: usize, volume: u64) -> Changed
     if stream <= LAST_STREAM {
         let before = meter.streams[stream];
         let analysis = before.analysis;
-        let room = MOST_TOTAL - before.volume;
+        let room = MOST_TOTAL - before.totals.volume;
         refusal = volume_refusal(MOST_VOLUME < volume, no_analysis(analysis), room < volume);
         if refusal == 0 {
             meter.streams[stream] = metered(before, volume);
@@ -252,9 +254,8 @@ pub fn totals(meter: Meter, stream: usize) -> TotalsAnswer
         return TotalsAnswer::Refused(13);
     }
     let s = meter.streams[stream];
-    let volume = s.volume;
-    let energy = s.energy;
-    TotalsAnswer::Accepted(StreamTotals { volume, energy })
+    let totals = s.totals;
+    TotalsAnswer::Accepted(totals)
 }
 
 // The mean calorific value of an energy over a volume, in J/m³, or 18.
@@ -281,5 +282,5 @@ pub fn mean(meter: Meter, stream: usize) -> MeanAnswer
         return MeanAnswer::Refused(13);
     }
     let s = meter.streams[stream];
-    mean_over(s.energy, s.volume)
+    mean_over(s.totals.energy, s.totals.volume)
 }

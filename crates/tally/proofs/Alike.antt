@@ -23,7 +23,7 @@ use Rattle.meter.specs.declared.Register.{Register}
 use Rattle.meter.specs.declared.Stream.{Stream}
 use Rattle.meter.specs.State.{hsOf, amountIn}
 use Rattle.meter.specs.Conditions.{pairDiffers, noAnalysis, analysisOrder, meteringOrder, meanOrder}
-use Rattle.meter.specs.Calls.{gasOf, analysed, booked, metered, totalsIn, meanIn}
+use Rattle.meter.specs.Calls.{gasOf, analysed, booked, metered, meanIn}
 use Rattle.meter.proofs.Registers.{amount-booked}
 use Rattle.meter.proofs.Orders.{clear-analysis, clear-metering}
 use Rattle.tally.specs.Tally.{perMJ, analysis, metering, totals, mean, meanIs, Account, partsOf, grown, StreamTally, otherPair, noRecord, orderOf, meteredBy, leftBy, givenBy}
@@ -44,8 +44,8 @@ pub record AlikeRegister (u v : ℕ) (e : Register) (a : Account) : Type 0 where
 pub record Alike (s : Stream) (l : StreamTally) : Type 0 where
   pub inForce : SameInForce (s .analysis) (l .inForce)
   pub pair : l .pair ≡ pairOf (l .inForce)
-  pub volume : s .volume ≡ l .volume
-  pub energy : AlikeRegister perMJ (l .volume) (s .energy) (l .energy)
+  pub volume : s .totals .volume ≡ l .volume
+  pub energy : AlikeRegister perMJ (l .volume) (s .totals .energy) (l .energy)
 
 -- a volume w at a value n that is the record's h, which is x unrounded
 register-grows : (u v w : ℕ) {n h : ℕ} (x : Fraction) (e : Register) (a : Account) → 0 < u → n ≡ h → Within (whole 2) h x → AlikeRegister u v e a →
@@ -106,14 +106,14 @@ module _ (s : Stream) (l : StreamTally) (h : Alike s l) (k : ℕ) where
             pair = h .pair;
             volume = ap (λ (n : ℕ). n + v) (h .volume);
             energy =
-                register-grows perMJ (l .volume) v (unrounded.Hs (contentsIn bs)) (s .energy) (l .energy) (omega arith)
+                register-grows perMJ (l .volume) v (unrounded.Hs (contentsIn bs)) (s .totals .energy) (l .energy) (omega arith)
                 (ap hsOf ei ∙ sym (ap (λ (p : Six). p .Hs) (found .1))) (distances (contentsIn bs) (acceptable bs (found .0)) .Hs) (h .energy);
           }
 
 -- the same readings
 module _ (s : Stream) (l : StreamTally) (h : Alike s l) where
-  pub totals-alike : totalsGiven (totalsIn s) ≡ givenBy totals l
-  totals-alike = cc (h .volume, parts-alike perMJ (l .volume) (s .energy) (l .energy) (h .energy))
+  pub totals-alike : totalsGiven (s .totals) ≡ givenBy totals l
+  totals-alike = cc (h .volume, parts-alike perMJ (l .volume) (s .totals .energy) (l .energy) (h .energy))
 
-  pub mean-alike : meanIs (meanIn (s .energy) (s .volume)) ≡ givenBy mean l
+  pub mean-alike : meanIs (meanIn (s .totals .energy) (s .totals .volume)) ≡ givenBy mean l
   mean-alike = cc (h .energy .amount, h .volume)

@@ -41,7 +41,7 @@ mean-distance t n v x p h =
 account-ceiling : (m : Meter) (k : ℕ) (l : StreamTally) → k ≤ lastStream → Sound m → Alike (streamAt m k) l → 0 < l .volume → near (l .energy .booked) (l .volume) ≤ calorificBound
 account-ceiling m k l b sound a p =
     rw (← a .energy .amount, ← a .volume)
-    (no-mean-above-ceiling m k _ sound (rw (le-ltb lastStream k b, ne-eqb (streamAt m k .volume) 0 (omega (arith, a .volume)))))
+    (no-mean-above-ceiling m k _ sound (rw (le-ltb lastStream k b, ne-eqb (streamAt m k .totals .volume) 0 (omega (arith, a .volume)))))
 
 -- a fresh meter beside a fresh tally
 fresh-alike : Alike freshStream freshStreamTally

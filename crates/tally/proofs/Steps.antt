@@ -17,7 +17,7 @@ use Rattle.meter.specs.declared.Stream.{Stream}
 use Rattle.meter.specs.declared.Meter.{Meter}
 use Rattle.meter.specs.State.{Sound, freshStream, streamAt, withStream}
 use Rattle.meter.specs.Conditions.{analysisOrder, meteringOrder, totalsOrder, meanOrder}
-use Rattle.meter.specs.Calls.{analysed, metered, analysisOf, meteringOf, totalsIn, meanIn}
+use Rattle.meter.specs.Calls.{analysed, metered, analysisOf, meteringOf, meanIn}
 use Rattle.meter.specs.Answers.{totalsMeaning, meanMeaning}
 use Rattle.meter.proofs.Orders.{clear-analysis, clear-metering}
 use Rattle.meter.proofs.Streams.{at-put}
@@ -138,8 +138,8 @@ module _ (m : Meter) (t : Tally) (h : Linked m t) where
   step (by-analysis κs k b r got) = analysis-next m t h k (now b) (r .verdict) (r .meter) (got tt)
   step (by-metering k v r got) = metering-next m t h k v (r .verdict) (r .meter) (got (h .sound))
   step (by-totals k r got) =
-      reads m t h totalsGiven k totals (totalsMeaning r) (firstOf (totalsOrder k)) (totalsIn (streamAt m k)) refl (got tt) (totals-alike (streamAt m k) (tallyAt t k) (h .each k)) refl
+      reads m t h totalsGiven k totals (totalsMeaning r) (firstOf (totalsOrder k)) (streamAt m k .totals) refl (got tt) (totals-alike (streamAt m k) (tallyAt t k) (h .each k)) refl
   step (by-mean k r got) =
       let s = streamAt m k in
       let l = tallyAt t k in
-      reads m t h meanIs k mean (meanMeaning r) (firstOf (meanOrder k s)) (meanIn (s .energy) (s .volume)) (ap firstOf (mean-order s l (h .each k) k)) (got (h .sound)) (mean-alike s l (h .each k)) refl
+      reads m t h meanIs k mean (meanMeaning r) (firstOf (meanOrder k s)) (meanIn (s .totals .energy) (s .totals .volume)) (ap firstOf (mean-order s l (h .each k) k)) (got (h .sound)) (mean-alike s l (h .each k)) refl

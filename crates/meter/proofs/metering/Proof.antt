@@ -37,11 +37,11 @@ module _ (c : tie.Start) where
 
   -- the number that was found on a stream up to 15
   found : k ≤ lastStream → {none : Bool} {n : ℕ} → none ≡ noAnalysis (stream .analysis) →
-      n ≡ firstOf (volumeOrder (volumeAbove w) none (ltb (mostTotal - stream .volume) w)) → n ≡ firstOf (meteringOrder k w stream)
-  found low {none} is e = e ∙ metering-number-is k w stream none low (sound low .volume) is
+      n ≡ firstOf (volumeOrder (volumeAbove w) none (ltb (mostTotal - stream .totals .volume) w)) → n ≡ firstOf (meteringOrder k w stream)
+  found low {none} is e = e ∙ metering-number-is k w stream none low (sound low .totals .volume) is
 
 sub-room : tie.Need-sub-room
-sub-room c = let d = c .before .before in omega (arith, sound (d .before) (d .if1 .taken) .volume)
+sub-room c = let d = c .before .before in omega (arith, sound (d .before) (d .if1 .taken) .totals .volume)
 
 metered-requires : tie.Need-metered-requires
 metered-requires c κs =
