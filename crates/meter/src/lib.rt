@@ -37,7 +37,7 @@ pub enum InForce {
     Known(Gas),
 }
 
-// An energy: whole MJ, and a rest below 10^9 mJ.
+// An amount in two parts, of energy whole MJ and a rest below 10^9 mJ.
 pub struct Register {
     pub whole: u64,
     pub rest: u64,
