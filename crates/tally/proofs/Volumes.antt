@@ -14,13 +14,6 @@ use Rattle.meter.proofs.Streams.{at-put}
 use Rattle.tally.specs.Tally.{lastStream, Ask, analysis, metering, totals, mean, Call, StreamTally, freshStreamTally, Tally, tallyAt, withTally, noRecord, orderOf, meteredBy, leftBy, givenBy, numberFor, tallyAfter, answersTo, tallied}
 use Rattle.tally.specs.Demand.{addedBy, acceptedVolume}
 
--- a refused call adds nothing
-refused-adds : (ask : Ask) (n : ℕ) → addedBy ask (refused n) ≡ 0
-refused-adds (analysis bs) n = refl
-refused-adds (metering v) n = refl
-refused-adds totals n = refl
-refused-adds mean n = refl
-
 -- an accepted call adds its volume
 metered-adds : (o : Option (List ℕ)) (v : ℕ) (s : StreamTally) → noRecord o ≡ false → meteredBy o v s .volume ≡ s .volume + v
 metered-adds none v s h = elim (true≢false h) [ ]
@@ -58,7 +51,7 @@ module _ (k : ℕ) (b : k ≤ lastStream) where
   volume-step t c h (suc n) z = go (eqb (c .stream) k)
     where
       go : (x : Bool) → tallyAt t k .volume ≡ tallyAt t k .volume + cond x (addedBy (c .ask) (refused (suc n))) 0
-      go true = rw (refused-adds (c .ask) (suc n)) (omega arith)
+      go true = omega arith
       go false = omega arith
 
   pub volume-sum : (t : Tally) (cs : List Call) → length (t .streams) ≡ 16 → tallyAt (tallied t cs) k .volume ≡ tallyAt t k .volume + acceptedVolume k cs (answersTo t cs)

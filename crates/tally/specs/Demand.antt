@@ -28,11 +28,11 @@ use Rattle.tally.specs.Run.{AnalysisAsks, MeteringAsks, TotalsAsks, Mean
 
 -- the volume that a call added: that of an accepted metering call
 abbrev pub addedBy : Ask → Answer → ℕ
-addedBy (analysis bs) a = 0
-addedBy (metering v) (refused n) = 0
+addedBy ask (refused n) = 0
+addedBy (analysis bs) (accepted g) = 0
 addedBy (metering v) (accepted g) = v
-addedBy totals a = 0
-addedBy mean a = 0
+addedBy totals (accepted g) = 0
+addedBy mean (accepted g) = 0
 
 -- the sum of the volumes that were accepted for the stream k
 abbrev pub acceptedVolume : ℕ → List Call → List Answer → ℕ
