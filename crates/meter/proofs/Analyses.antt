@@ -14,7 +14,7 @@ use Rattle.properties.specs.Answers.{numbers, quantities}
 use Rattle.properties.proofs.Outcomes.{number-of-refused, clear-of-accepted}
 use Rattle.meter.specs.declared.Gas.{Gas}
 use Rattle.meter.specs.declared.Meter.{Meter}
-use Rattle.meter.specs.State.{streamAt}
+use Rattle.meter.specs.State.{lastStream, streamAt}
 use Rattle.meter.specs.Conditions.{pairDiffers, pairOrder, analysisOrder}
 use Rattle.meter.specs.Calls.{gasOf}
 use Rattle.meter.proofs.Orders.{not-above}
@@ -35,12 +35,12 @@ module _ (m : Meter) (k : ℕ) (bs : List ℕ) where
   abbrev fourteen : Order
   fourteen = pairOrder (pairDiffers (streamAt m k .analysis) (combustionIn bs) (meteringIn bs))
 
-  pub record-refused : k ≤ 15 → (n : ℕ) → refused n ≡ propertiesOf bs → n ≡ firstOf (analysisOrder k bs (streamAt m k))
+  pub record-refused : k ≤ lastStream → (n : ℕ) → refused n ≡ propertiesOf bs → n ≡ firstOf (analysisOrder k bs (streamAt m k))
   record-refused low n e =
       let r = number-of-refused bs n e in
       stops (recordOrder bs) fourteen (r .0) (r .1) ∙ not-above (recordOrder bs ++ fourteen) low
 
-  pub record-accepted : k ≤ 15 → (p : Properties) → accepted (numbers p) ≡ propertiesOf bs → {differs : Bool} {n : ℕ} →
+  pub record-accepted : k ≤ lastStream → (p : Properties) → accepted (numbers p) ≡ propertiesOf bs → {differs : Bool} {n : ℕ} →
       differs ≡ pairDiffers (streamAt m k .analysis) (combustionIn bs) (meteringIn bs) → n ≡ firstOf (pairOrder differs) → n ≡ firstOf (analysisOrder k bs (streamAt m k))
   record-accepted low p e differs h =
       passes (recordOrder bs) fourteen tt refl (clear-of-accepted bs (numbers p) e .0) (h ∙ ap (λ (b : Bool). firstOf (pairOrder b)) differs)

@@ -1,15 +1,16 @@
 -- What is shown of every meter.
-use mathlib.Core.Path.{_≡_, refl, sym, ap, subst, _∙_}
+use mathlib.Core.Path.{_≡_, refl, sym, subst, _∙_}
+use mathlib.Core.Bool.{Bool, true, false, cond}
 use mathlib.Core.List.{List}
-use Prim.Native.Nat.{ℕ, zero, suc, _+_, _≤_, _<_}
+use Prim.Native.Nat.{ℕ, zero, suc, _+_, _≤_}
 use native.Mathlib.Nat.{mul-le-mul-left}
 use native.Mathlib.Omega.{arith}
-use native.Mathlib.Decide.{ℕ-discrete}
 use borrow.Author.Tests.{le-ltb, ltb-false, eqb-false}
-use lib.ListN.{length, length-set, getD-replicate}
-use lib.Seq.{getD-set-same, getD-set-other}
+use lib.Dec.{eqb}
+use lib.ListN.{length-set}
+use lib.Seq.{getD-set-other}
 use Rattle.records.specs.declared.Verdict.{Verdict}
-use Rattle.records.specs.Order.{firstOf, otherwise, decided}
+use Rattle.records.specs.Order.{firstOf, decided}
 use Rattle.records.specs.Format.{contentsIn}
 use Rattle.records.specs.Conditions.{recordOrder}
 use Rattle.records.specs.Answers.{Gives}
@@ -20,40 +21,35 @@ use Rattle.properties.specs.Quantities.{calorificBound}
 use Rattle.properties.proofs.Gas.{bounded}
 use Rattle.meter.specs.declared.Stream.{Stream}
 use Rattle.meter.specs.declared.Meter.{Meter}
-use Rattle.meter.specs.State.{SoundStream, Sound, freshStream, streamAt, withStream, perMJ}
+use Rattle.meter.specs.State.{lastStream, mostTotal, SoundStream, Sound, freshStream, streamAt, withStream, perMJ}
 use Rattle.meter.specs.Conditions.{analysisOrder, meteringOrder, meanOrder}
 use Rattle.meter.specs.Calls.{analysed, metered, meanIn}
 use Rattle.meter.specs.Kept.{FreshIsSound, AnalysisKeeps, MeteringKeeps, AnalysisLeavesOthers, MeteringLeavesOthers, ZeroIsAccepted, NoMeanAboveCeiling}
 use Rattle.meter.proofs.Orders.{clear-analysis, clear-metering}
 use Rattle.meter.proofs.Registers.{sound-booked}
+use Rattle.meter.proofs.Streams.{at-made, at-put}
 use Rattle.meter.proofs.Means.{mean-bounded}
 
--- another stream than the one that a call replaces
-other-stays : (n : ℕ) (m : Meter) (k : ℕ) (s : Stream) (j : ℕ) → (j ≡ k → ⊥) → streamAt (otherwise m (decided n (withStream m k s))) j ≡ streamAt m j
-other-stays zero m k s j e = getD-set-other (m .streams) k j s freshStream e
-other-stays (suc n) m k s j e = refl
-
 pub fresh-is-sound : FreshIsSound
-fresh-is-sound = record { count = refl; each = λ k b. rw getD-replicate (omega arith) }
+fresh-is-sound = record { count = refl; each = λ k b. rw (at-made freshStream 16 k) (omega arith) }
 
 -- one stream is replaced by a sound one
-with-sound : (m : Meter) (k : ℕ) (s : Stream) → k < 16 → Sound m → SoundStream s → Sound (withStream m k s)
-with-sound m k s b h sound = record { count = length-set (m .streams) k s ∙ h .count; each = λ j c. at j c (ℕ-discrete j k) }
+with-sound : (m : Meter) (k : ℕ) (s : Stream) → Sound m → SoundStream s → Sound (withStream m k s)
+with-sound m k s h sound =
+    record {
+      count = length-set (m .streams) k s ∙ h .count;
+      each = λ j c. rw (at-put freshStream (m .streams) k j s (λ e. omega (arith, h .count))) (at j c (eqb k j));
+    }
   where
-    at : (j : ℕ) → j < 16 → Dec (j ≡ k) → SoundStream (streamAt (withStream m k s) j)
-    at j c (yes e) =
-        let p : k < length (m .streams) = omega (arith, h .count) in
-        rw (e, getD-set-same (m .streams) k s freshStream p) sound
-    at j c (no e) = rw getD-set-other (h .each j c)
+    at : (j : ℕ) → j ≤ lastStream → (b : Bool) → SoundStream (cond b s (streamAt m j))
+    at j c true = sound
+    at j c false = h .each j c
 
 -- a call that replaces one stream where its number is 0
-otherwise-sound : (n : ℕ) (m : Meter) (k : ℕ) (s : Stream) → Sound m → (n ≡ 0 → (k < 16) × SoundStream s) → Sound (otherwise m (decided n (withStream m k s)))
-otherwise-sound zero m k s h new = let a = new refl in with-sound m k s (a .0) h (a .1)
-otherwise-sound (suc n) m k s h new = h
-
 kept : (n : ℕ) (m : Meter) (k : ℕ) (s : Stream) (v : Verdict) (after : Meter) → Gives (decided n (withStream m k s)) m v after → Sound m →
-    (n ≡ 0 → (k < 16) × SoundStream s) → Sound after
-kept n m k s v after gives h new = subst Sound (sym (gives .stands)) (otherwise-sound n m k s h new)
+    (n ≡ 0 → SoundStream s) → Sound after
+kept zero m k s v after gives h new = subst Sound (sym (gives .stands)) (with-sound m k s h (new refl))
+kept (suc n) m k s v after gives h new = subst Sound (sym (gives .stands)) h
 
 hs-bounded : (bs : List ℕ) → firstOf (recordOrder bs) ≡ 0 → chain.Hs (contentsIn bs) ≤ calorificBound
 hs-bounded bs clear = bounded (contentsIn bs) (acceptable bs clear) .Hs
@@ -64,7 +60,7 @@ analysis-keeps m k bs v after gives h =
     (λ z.
     let c = clear-analysis k bs s z in
     let old = h .each k (c .stream) in
-    (c .stream, record { Hs = hs-bounded bs (c .clear); volume = old .volume; energy = old .energy }))
+    record { Hs = hs-bounded bs (c .clear); totals = old .totals })
   where
     s : Stream
     s = streamAt m k
@@ -75,15 +71,17 @@ metering-keeps m k w v after gives h =
     (λ z.
     let c = clear-metering k w s z in
     let old = h .each k (c .stream) in
-    (c .stream, record { Hs = old .Hs; volume = c .total; energy = sound-booked perMJ (omega arith) calorificBound (s .volume) w _ (s .energy) (old .energy) (mul-le-mul-left w (old .Hs)) }))
+    let t = s .totals in
+    record { Hs = old .Hs; totals = record { volume = c .total; energy = sound-booked perMJ (omega arith) calorificBound (t .volume) w _ (t .energy) (old .totals .energy) (mul-le-mul-left w (old .Hs)) } })
   where
     s : Stream
     s = streamAt m k
 
 -- every other stream after a call that replaces one
-others-stay : (n : ℕ) (m : Meter) (k : ℕ) (s : Stream) (v : Verdict) (after : Meter) → Gives (decided n (withStream m k s)) m v after →
+pub others-stay : (n : ℕ) (m : Meter) (k : ℕ) (s : Stream) (v : Verdict) (after : Meter) → Gives (decided n (withStream m k s)) m v after →
     (j : ℕ) → (j ≡ k → ⊥) → streamAt after j ≡ streamAt m j
-others-stay n m k s v after gives j e = ap (λ (x : Meter). streamAt x j) (gives .stands) ∙ other-stays n m k s j e
+others-stay zero m k s v after gives j e = rw (gives .stands) (getD-set-other (m .streams) k j s freshStream e)
+others-stay (suc n) m k s v after gives j e = rw (gives .stands)
 
 pub analysis-leaves-others : AnalysisLeavesOthers
 analysis-leaves-others m k bs v after = others-stay (firstOf (analysisOrder k bs (streamAt m k))) m k (analysed (streamAt m k) bs) v after
@@ -93,14 +91,14 @@ metering-leaves-others m k w v after = others-stay (firstOf (meteringOrder k w (
 
 pub zero-is-accepted : ZeroIsAccepted
 zero-is-accepted m k h b some =
-    rw (le-ltb 15 k (omega arith), some, le-ltb 999999999999 (streamAt m k .volume + 0) (omega (arith, h .each k b .volume)))
+    rw (le-ltb lastStream k b, some, le-ltb mostTotal (streamAt m k .totals .volume + 0) (omega (arith, h .each k b .totals .volume)))
 
 pub no-mean-above-ceiling : NoMeanAboveCeiling
 no-mean-above-ceiling m k h sound e =
     let s = streamAt m k in
-    let a = decided-accepted (firstOf (meanOrder k s)) (meanIn (s .energy) (s .volume)) h e in
+    let t = s .totals in
+    let a = decided-accepted (firstOf (meanOrder k s)) (meanIn (t .energy) (t .volume)) h e in
     let o = unmet (meanOrder k s) tt (a .0) in
-    let b = ltb-false 15 k (o 13) in
-    let z = eqb-false (s .volume) 0 (o 18) in
-    let l = sound .each k (omega arith) in
-    subst (λ (x : ℕ). x ≤ calorificBound) (a .1) (mean-bounded (s .energy) (s .volume) (l .energy) (l .volume) (omega arith))
+    let z = eqb-false (t .volume) 0 (o 18) in
+    let l = sound .each k (ltb-false lastStream k (o 13)) .totals in
+    subst (λ (x : ℕ). x ≤ calorificBound) (a .1) (mean-bounded (t .energy) (t .volume) (l .energy) (l .volume) (omega arith))

@@ -11,6 +11,7 @@ use Rattle.records.specs.Format.{combustionIn, meteringIn}
 use Rattle.records.specs.Conditions.{recordOrder}
 use Rattle.records.proofs.OrderLaws.{unmet, clear-first, clear-second}
 use Rattle.meter.specs.declared.Stream.{Stream}
+use Rattle.meter.specs.State.{lastStream, mostVolume, mostTotal}
 use Rattle.meter.specs.Conditions.{pairDiffers, volumeAbove, noAnalysis, volumeOrder, analysisOrder, meteringOrder, AnalysisNumbers, MeteringNumbers, TotalsNumbers, MeanNumbers}
 
 pub analysis-numbers : AnalysisNumbers
@@ -26,17 +27,14 @@ pub mean-numbers : MeanNumbers
 mean-numbers k s = refl
 
 -- 13, which every call tries first
-pub analysis-above : (k : ℕ) (bs : List ℕ) (s : Stream) → 15 < k → 13 ≡ firstOf (analysisOrder k bs s)
-analysis-above k bs s h = rw (lt-ltb 15 k h)
+pub above : {k : ℕ} (rest : Order) → lastStream < k → 13 ≡ firstOf ((13, ltb lastStream k) ∷ rest)
+above {k} rest h = rw (lt-ltb lastStream k h)
 
-pub metering-above : (k v : ℕ) (s : Stream) → 15 < k → 13 ≡ firstOf (meteringOrder k v s)
-metering-above k v s h = rw (lt-ltb 15 k h)
-
-pub not-above : {k : ℕ} (rest : Order) → k ≤ 15 → firstOf rest ≡ firstOf ((13, ltb 15 k) ∷ rest)
-not-above {k} rest h = rw (le-ltb 15 k h)
+pub not-above : {k : ℕ} (rest : Order) → k ≤ lastStream → firstOf rest ≡ firstOf ((13, ltb lastStream k) ∷ rest)
+not-above {k} rest h = rw (le-ltb lastStream k h)
 
 -- 17 without the sum
-pub passes-room : (limit total v : ℕ) → total ≤ limit → ltb (limit - total) v ≡ ltb limit (total + v)
+passes-room : (limit total v : ℕ) → total ≤ limit → ltb (limit - total) v ≡ ltb limit (total + v)
 passes-room limit total v h = go (ltb (limit - total) v) refl
   where
     go : (b : Bool) → ltb (limit - total) v ≡ b → ltb (limit - total) v ≡ ltb limit (total + v)
@@ -44,9 +42,9 @@ passes-room limit total v h = go (ltb (limit - total) v) refl
     go false e = e ∙ sym (le-ltb limit (total + v) (omega (arith, ltb-false (limit - total) v e)))
 
 -- the number of a metering call on a stream up to 15
-pub metering-number-is : (k v : ℕ) (s : Stream) (none : Bool) → k ≤ 15 → s .volume ≤ 999999999999 → none ≡ noAnalysis (s .analysis) →
-    firstOf (volumeOrder (volumeAbove v) none (ltb (999999999999 - s .volume) v)) ≡ firstOf (meteringOrder k v s)
-metering-number-is k v s none low total is = rw (le-ltb 15 k low, is, passes-room 999999999999 (s .volume) v total)
+pub metering-number-is : (k v : ℕ) (s : Stream) (none : Bool) → k ≤ lastStream → s .totals .volume ≤ mostTotal → none ≡ noAnalysis (s .analysis) →
+    firstOf (volumeOrder (volumeAbove v) none (ltb (mostTotal - s .totals .volume) v)) ≡ firstOf (meteringOrder k v s)
+metering-number-is k v s none low total is = rw (le-ltb lastStream k low, is, passes-room mostTotal (s .totals .volume) v total)
 
 -- an accepted analysis: the record's part of the order, from whether 13 and 14 hold
 pub record-clear : (bs : List ℕ) (thirteen fourteen : Bool) → firstOf ((13, thirteen) ∷ recordOrder bs ++ ((14, fourteen) ∷ [])) ≡ 0 → firstOf (recordOrder bs) ≡ 0
@@ -54,23 +52,23 @@ record-clear bs thirteen fourteen h =
     clear-first (recordOrder bs) ((14, fourteen) ∷ []) tt (clear-second ((13, thirteen) ∷ []) (recordOrder bs ++ ((14, fourteen) ∷ [])) tt h)
 
 pub record ClearAnalysis (k : ℕ) (bs : List ℕ) (s : Stream) : Type 0 where
-  pub stream : k < 16
+  pub stream : k ≤ lastStream
   pub clear : firstOf (recordOrder bs) ≡ 0
   pub pair : pairDiffers (s .analysis) (combustionIn bs) (meteringIn bs) ≡ false
 
 pub clear-analysis : (k : ℕ) (bs : List ℕ) (s : Stream) → firstOf (analysisOrder k bs s) ≡ 0 → ClearAnalysis k bs s
 clear-analysis k bs s h =
     let free = unmet (analysisOrder k bs s) tt h in
-    record { stream = omega (arith, ltb-false 15 k (free 13)); clear = record-clear bs (ltb 15 k) (pairDiffers (s .analysis) (combustionIn bs) (meteringIn bs)) h; pair = free 14 }
+    record { stream = ltb-false lastStream k (free 13); clear = record-clear bs (ltb lastStream k) (pairDiffers (s .analysis) (combustionIn bs) (meteringIn bs)) h; pair = free 14 }
 
 -- an accepted volume
 pub record ClearMetering (k v : ℕ) (s : Stream) : Type 0 where
-  pub stream : k < 16
-  pub volume : v ≤ 10000000
+  pub stream : k ≤ lastStream
+  pub volume : v ≤ mostVolume
   pub analysed : noAnalysis (s .analysis) ≡ false
-  pub total : s .volume + v ≤ 999999999999
+  pub total : s .totals .volume + v ≤ mostTotal
 
 pub clear-metering : (k v : ℕ) (s : Stream) → firstOf (meteringOrder k v s) ≡ 0 → ClearMetering k v s
 clear-metering k v s h =
     let free = unmet (meteringOrder k v s) tt h in
-    record { stream = omega (arith, ltb-false 15 k (free 13)); volume = ltb-false 10000000 v (free 15); analysed = free 16; total = ltb-false 999999999999 (s .volume + v) (free 17) }
+    record { stream = ltb-false lastStream k (free 13); volume = ltb-false mostVolume v (free 15); analysed = free 16; total = ltb-false mostTotal (s .totals .volume + v) (free 17) }

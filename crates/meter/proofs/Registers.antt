@@ -3,7 +3,6 @@ use mathlib.Core.Path.{_≡_, sym, ap, _∙_}
 use Prim.Native.Nat.{ℕ, _+_, _*_, _/_, _%_, _≤_, _<_}
 use native.Mathlib.Nat.{add-comm, add-mul-div-right, add-mul-mod-self-right, div-add-mod', mod-lt}
 use native.Mathlib.Omega.{arith}
-use lib.Arith.{digits-div, digits-mod}
 use Rattle.meter.specs.declared.Register.{Register}
 use Rattle.meter.specs.State.{amountIn, SoundRegister}
 use Rattle.meter.specs.Calls.{booked}
@@ -25,10 +24,3 @@ module _ (u : ℕ) (p : 0 < u) where
   pub sound-booked : (ceiling v w n : ℕ) (e : Register) → SoundRegister u ceiling v e → n ≤ w * ceiling → SoundRegister u ceiling (v + w) (booked u e n)
   sound-booked ceiling v w n e s h =
       record { rest = mod-lt (amountIn u e + n) p; amount = omega (arith, amount-booked e n, s .amount) }
-
--- the parts of a register, from its amount
-pub whole-of : (u : ℕ) (e : Register) → e .rest < u → e .whole ≡ amountIn u e / u
-whole-of u e h = sym (digits-div (e .whole) h)
-
-pub rest-of : (u : ℕ) (e : Register) → e .rest < u → e .rest ≡ amountIn u e % u
-rest-of u e h = sym (digits-mod (e .whole) h)

@@ -7,6 +7,7 @@ use Rattle.records.specs.Format.{combustionIn, meteringIn, contentsIn}
 use Rattle.properties.specs.Chain.{sixOf}
 use Rattle.properties.specs.Answers.{quantities}
 use Rattle.meter.specs.declared.Gas.{Gas}
+use Rattle.meter.specs.declared.InForce.{InForce}
 use Rattle.meter.specs.declared.InForce.the-variants.{Known}
 use Rattle.meter.specs.declared.Register.{Register}
 use Rattle.meter.specs.declared.Stream.{Stream}
@@ -21,7 +22,7 @@ gasOf bs = record { combustion = combustionIn bs; metering = meteringIn bs; prop
 
 -- a stream with another gas in force, and with that of a record
 abbrev pub withGas : Stream → Gas → Stream
-withGas s gas = record { analysis = Known gas; volume = s .volume; energy = s .energy }
+withGas s gas = record { analysis = Known gas; totals = s .totals }
 
 abbrev pub analysed : Stream → List ℕ → Stream
 analysed s bs = withGas s (gasOf bs)
@@ -30,9 +31,12 @@ analysed s bs = withGas s (gasOf bs)
 abbrev pub booked : ℕ → Register → ℕ → Register
 booked u e n = record { whole = (amountIn u e + n) / u; rest = (amountIn u e + n) % u }
 
--- a stream with v dm³ more, and v × Hs mJ more; with no analysis, 16 has refused the call
+-- totals with v dm³ more, and v × Hs mJ more; with no analysis, 16 has refused the call
+abbrev pub added : StreamTotals → InForce → ℕ → StreamTotals
+added t a v = record { volume = t .volume + v; energy = booked perMJ (t .energy) (v * hsOf a) }
+
 abbrev pub metered : Stream → ℕ → Stream
-metered s v = record { analysis = s .analysis; volume = s .volume + v; energy = booked perMJ (s .energy) (v * hsOf (s .analysis)) }
+metered s v = record { analysis = s .analysis; totals = added (s .totals) (s .analysis) v }
 
 -- the analysis call: the record's properties come into force on the stream k
 abbrev pub analysisOf : Meter → ℕ → List ℕ → Outcome Meter
@@ -50,15 +54,12 @@ abbrev pub afterMetering : Meter → ℕ → ℕ → Meter
 afterMetering m k v = otherwise m (meteringOf m k v)
 
 -- the reading of totals
-abbrev pub totalsIn : Stream → StreamTotals
-totalsIn s = record { volume = s .volume; energy = s .energy }
-
 abbrev pub totalsOf : Meter → ℕ → Outcome StreamTotals
-totalsOf m k = decided (firstOf (totalsOrder k)) (totalsIn (streamAt m k))
+totalsOf m k = decided (firstOf (totalsOrder k)) (streamAt m k .totals)
 
 -- the reading of the mean, in J/m³: near(energy in mJ / volume in dm³)
 abbrev pub meanIn : Register → ℕ → ℕ
 meanIn e v = near (amountIn perMJ e) v
 
 abbrev pub meanOf : Meter → ℕ → Outcome ℕ
-meanOf m k = decided (firstOf (meanOrder k (streamAt m k))) (meanIn (streamAt m k .energy) (streamAt m k .volume))
+meanOf m k = decided (firstOf (meanOrder k (streamAt m k))) (meanIn (streamAt m k .totals .energy) (streamAt m k .totals .volume))

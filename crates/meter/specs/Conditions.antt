@@ -10,10 +10,11 @@ use Rattle.records.specs.Conditions.{recordOrder}
 use Rattle.meter.specs.declared.InForce.{InForce}
 use Rattle.meter.specs.declared.InForce.the-variants.{Nothing, Known}
 use Rattle.meter.specs.declared.Stream.{Stream}
+use Rattle.meter.specs.State.{lastStream, mostVolume, mostTotal}
 
 -- 13: stream above 15
 abbrev pub streamAbove : ℕ → Bool
-streamAbove k = ltb 15 k
+streamAbove k = ltb lastStream k
 
 -- 14: pair is not the stream's, which the first accepted analysis fixes
 abbrev pub pairDiffers : InForce → ℕ → ℕ → Bool
@@ -22,7 +23,7 @@ pairDiffers (Known gas) c m = not (eqb (gas .combustion) c) || not (eqb (gas .me
 
 -- 15: volume above 10,000,000
 abbrev pub volumeAbove : ℕ → Bool
-volumeAbove v = ltb 10000000 v
+volumeAbove v = ltb mostVolume v
 
 -- 16: stream has no analysis
 abbrev pub noAnalysis : InForce → Bool
@@ -31,7 +32,7 @@ noAnalysis (Known gas) = false
 
 -- 17: volume total would pass 999,999,999,999
 abbrev pub totalPasses : ℕ → ℕ → Bool
-totalPasses total v = ltb 999999999999 (total + v)
+totalPasses total v = ltb mostTotal (total + v)
 
 -- 18: mean wanted at volume total 0
 abbrev pub totalZero : ℕ → Bool
@@ -52,13 +53,13 @@ abbrev pub analysisOrder : ℕ → List ℕ → Stream → Order
 analysisOrder k bs s = (13, streamAbove k) ∷ recordOrder bs ++ pairOrder (pairDiffers (s .analysis) (combustionIn bs) (meteringIn bs))
 
 abbrev pub meteringOrder : ℕ → ℕ → Stream → Order
-meteringOrder k v s = (13, streamAbove k) ∷ volumeOrder (volumeAbove v) (noAnalysis (s .analysis)) (totalPasses (s .volume) v)
+meteringOrder k v s = (13, streamAbove k) ∷ volumeOrder (volumeAbove v) (noAnalysis (s .analysis)) (totalPasses (s .totals .volume) v)
 
 abbrev pub totalsOrder : ℕ → Order
 totalsOrder k = (13, streamAbove k) ∷ []
 
 abbrev pub meanOrder : ℕ → Stream → Order
-meanOrder k s = (13, streamAbove k) ∷ zeroOrder (totalZero (s .volume))
+meanOrder k s = (13, streamAbove k) ∷ zeroOrder (totalZero (s .totals .volume))
 
 -- analysis tries 13, 1 to 12, 14; metering 13, 15, 16, 17; totals 13; mean 13, 18
 abbrev pub AnalysisNumbers : Type 0

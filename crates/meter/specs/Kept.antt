@@ -3,13 +3,13 @@
 use mathlib.Core.Path.{_≡_}
 use mathlib.Core.Bool.{false}
 use mathlib.Core.List.{List}
-use Prim.Native.Nat.{ℕ, _≤_, _<_}
+use Prim.Native.Nat.{ℕ, _≤_}
 use Rattle.records.specs.declared.Verdict.{Verdict}
 use Rattle.records.specs.Order.{accepted, firstOf}
 use Rattle.records.specs.Answers.{Gives}
 use Rattle.properties.specs.Quantities.{calorificBound}
 use Rattle.meter.specs.declared.Meter.{Meter}
-use Rattle.meter.specs.State.{Sound, freshMeter, streamAt}
+use Rattle.meter.specs.State.{lastStream, Sound, freshMeter, streamAt}
 use Rattle.meter.specs.Conditions.{noAnalysis, meteringOrder}
 use Rattle.meter.specs.Calls.{analysisOf, meteringOf, meanOf}
 
@@ -36,7 +36,7 @@ MeteringLeavesOthers =
 
 -- volume 0 is accepted on every stream that has an analysis
 abbrev pub ZeroIsAccepted : Type 0
-ZeroIsAccepted = (m : Meter) (k : ℕ) → Sound m → k < 16 → noAnalysis (streamAt m k .analysis) ≡ false → firstOf (meteringOrder k 0 (streamAt m k)) ≡ 0
+ZeroIsAccepted = (m : Meter) (k : ℕ) → Sound m → k ≤ lastStream → noAnalysis (streamAt m k .analysis) ≡ false → firstOf (meteringOrder k 0 (streamAt m k)) ≡ 0
 
 -- no mean is above the ceiling of a calorific value
 abbrev pub NoMeanAboveCeiling : Type 0

@@ -6,12 +6,28 @@ use Rattle.properties.specs.Quantities.{calorificBound}
 use Rattle.meter.specs.declared.InForce.{InForce}
 use Rattle.meter.specs.declared.InForce.the-variants.{Nothing, Known}
 use Rattle.meter.specs.declared.Register.{Register}
+use Rattle.meter.specs.declared.StreamTotals.{StreamTotals}
 use Rattle.meter.specs.declared.Stream.{Stream}
 use Rattle.meter.specs.declared.Meter.{Meter}
 
+-- the last stream
+abbrev pub lastStream : ℕ
+lastStream = 15
+
+-- the most that one metering call adds, and the most that a volume total comes to, in dm³
+abbrev pub mostVolume : ℕ
+mostVolume = 10000000
+
+abbrev pub mostTotal : ℕ
+mostTotal = 999999999999
+
+-- mJ in 1 MJ
+abbrev pub perMJ : ℕ
+perMJ = 1000000000
+
 -- no analysis, volume 0, energy 0
 abbrev pub freshStream : Stream
-freshStream = record { analysis = Nothing; volume = 0; energy = record { whole = 0; rest = 0 } }
+freshStream = record { analysis = Nothing; totals = record { volume = 0; energy = record { whole = 0; rest = 0 } } }
 
 -- 16 streams, 0 to 15
 abbrev pub freshMeter : Meter
@@ -34,22 +50,22 @@ hsOf (Known gas) = gas .properties .hs .value
 abbrev pub amountIn : ℕ → Register → ℕ
 amountIn u e = e .whole * u + e .rest
 
--- mJ in 1 MJ
-abbrev pub perMJ : ℕ
-perMJ = 1000000000
-
 -- what holds of a register at a volume total v: the rest is below one whole, and the amount at most v × a ceiling
 pub record SoundRegister (u ceiling v : ℕ) (e : Register) : Type 0 where
   pub rest : e .rest < u
   pub amount : amountIn u e ≤ v * ceiling
 
+-- what holds of the totals of every stream
+pub record SoundTotals (t : StreamTotals) : Type 0 where
+  pub volume : t .volume ≤ mostTotal
+  pub energy : SoundRegister perMJ calorificBound (t .volume) (t .energy)
+
 -- what holds of every stream
 pub record SoundStream (s : Stream) : Type 0 where
   pub Hs : hsOf (s .analysis) ≤ calorificBound
-  pub volume : s .volume ≤ 999999999999
-  pub energy : SoundRegister perMJ calorificBound (s .volume) (s .energy)
+  pub totals : SoundTotals (s .totals)
 
 -- what holds of every meter, as made or as its calls left it
 pub record Sound (m : Meter) : Type 0 where
   pub count : length (m .streams) ≡ 16
-  pub each : (k : ℕ) → k < 16 → SoundStream (streamAt m k)
+  pub each : (k : ℕ) → k ≤ lastStream → SoundStream (streamAt m k)

@@ -10,10 +10,19 @@ ghost use Prim.Native.Nat.{_+_, _*_, _^_, _≤_, _<_};
 ghost use Rattle.records.specs.Order.{firstOf, decided};
 ghost use Rattle.records.specs.Answers.{Gives};
 ghost use Rattle.properties.specs.Quantities.{calorificBound};
-ghost use Rattle.meter.specs.State.{freshMeter, hsOf, perMJ, SoundRegister, SoundStream, Sound};
+ghost use Rattle.meter.specs.State.{mostVolume, mostTotal, perMJ, freshMeter, hsOf, SoundRegister, SoundStream, Sound};
 ghost use Rattle.meter.specs.Conditions.{pairDiffers, noAnalysis, totalZero, pairOrder, volumeOrder, zeroOrder};
 ghost use Rattle.meter.specs.Calls.{withGas, booked, metered, analysisOf, meteringOf, totalsOf, meanIn, meanOf};
 ghost use Rattle.meter.specs.Answers.{totalsMeaning, meanMeaning};
+
+// The last stream.
+const LAST_STREAM: usize = 15;
+// The most that one metering call adds, in dm³.
+const MOST_VOLUME: u64 = 10000000;
+// The most that a volume total comes to, in dm³.
+const MOST_TOTAL: u64 = 999999999999;
+// mJ in 1 MJ.
+const PER_MJ: u64 = 1000000000;
 
 // The properties of an accepted record, and its pair of temperatures in °C.
 pub struct Gas {
@@ -28,17 +37,22 @@ pub enum InForce {
     Known(Gas),
 }
 
-// An energy: whole MJ, and a rest below 10^9 mJ.
+// An amount in two parts, of energy whole MJ and a rest below 10^9 mJ.
 pub struct Register {
     pub whole: u64,
     pub rest: u64,
 }
 
-// A stream: the analysis in force, the volume total in dm³, and the energy.
+// The totals of a stream: the volume in dm³, and the energy.
+pub struct StreamTotals {
+    pub volume: u64,
+    pub energy: Register,
+}
+
+// A stream: the analysis in force, and the totals.
 pub struct Stream {
     analysis: InForce,
-    volume: u64,
-    energy: Register,
+    totals: StreamTotals,
 }
 
 // Sixteen streams, 0 to 15.
@@ -50,12 +64,6 @@ pub struct Meter {
 pub struct Changed {
     pub meter: Meter,
     pub verdict: Verdict,
-}
-
-// The totals of a stream: the volume in dm³, and the energy.
-pub struct StreamTotals {
-    pub volume: u64,
-    pub energy: Register,
 }
 
 // The totals, or document 01's number.
@@ -76,8 +84,10 @@ pub fn fresh() -> Meter
 {
     let stream = Stream {
         analysis: InForce::Nothing,
-        volume: 0,
-        energy: Register { whole: 0, rest: 0 },
+        totals: StreamTotals {
+            volume: 0,
+            energy: Register { whole: 0, rest: 0 },
+        },
     };
     Meter {
         streams: [stream; 16],
@@ -95,7 +105,7 @@ fn pair_differs(earlier: InForce, combustion: u8, metering: u8) -> bool
 }
 
 // 14 where it holds, 0 where not.
-fn pair_number(fourteen: bool) -> u8
+fn pair_refusal(fourteen: bool) -> u8
     ensures { λ r. ⌜ r ≡ firstOf (pairOrder fourteen) ⌝ }
 {
     if fourteen {
@@ -105,14 +115,13 @@ fn pair_number(fourteen: bool) -> u8
 }
 
 // The stream with a gas in force.
-fn analysed(before: Stream, gas: Gas) -> Stream
+fn with_gas(before: Stream, gas: Gas) -> Stream
     ensures { λ r. ⌜ r ≡ withGas before gas ⌝ }
 {
-    let energy = before.energy;
+    let totals = before.totals;
     Stream {
         analysis: InForce::Known(gas),
-        volume: before.volume,
-        energy,
+        totals,
     }
 }
 
@@ -120,32 +129,32 @@ fn analysed(before: Stream, gas: Gas) -> Stream
 pub fn analysis(mut meter: Meter, stream: usize, bytes: &[u8]) -> Changed
     ensures { λ r. ⌜ Gives (analysisOf meter stream (now (bytes .entry))) meter (r .verdict) (r .meter) ⌝ }
 {
-    let mut number: u8 = 13;
-    if stream <= 15 {
+    let mut refusal: u8 = 13;
+    if stream <= LAST_STREAM {
         match properties::properties_of(bytes) {
-            Answer::Refused(refusal) => {
-                number = refusal;
+            Answer::Refused(number) => {
+                refusal = number;
             }
             Answer::Accepted(properties) => {
                 let before = meter.streams[stream];
                 let earlier = before.analysis;
                 let combustion = bytes[5];
                 let metering = bytes[6];
-                number = pair_number(pair_differs(earlier, combustion, metering));
-                if number == 0 {
+                refusal = pair_refusal(pair_differs(earlier, combustion, metering));
+                if refusal == 0 {
                     let gas = Gas {
                         combustion,
                         metering,
                         properties,
                     };
-                    meter.streams[stream] = analysed(before, gas);
+                    meter.streams[stream] = with_gas(before, gas);
                 }
             }
         }
     }
     Changed {
         meter,
-        verdict: records::verdict_of(number),
+        verdict: records::verdict_of(refusal),
     }
 }
 
@@ -170,7 +179,7 @@ fn no_analysis(analysis: InForce) -> bool
 }
 
 // The first of 15, 16 and 17 that holds, 0 where none does.
-fn volume_number(fifteen: bool, sixteen: bool, seventeen: bool) -> u8
+fn volume_refusal(fifteen: bool, sixteen: bool, seventeen: bool) -> u8
     ensures { λ r. ⌜ r ≡ firstOf (volumeOrder fifteen sixteen seventeen) ⌝ }
 {
     if fifteen {
@@ -185,32 +194,34 @@ fn volume_number(fifteen: bool, sixteen: bool, seventeen: bool) -> u8
     0
 }
 
-// The register with volume × heat in mJ more.
-fn booked(energy: Register, volume: u64, heat: u64) -> Register
-    requires { ⌜ (energy .rest < perMJ) × (energy .whole < 2 ^ 63) ⌝ }
-    requires { ⌜ (volume ≤ 10000000) × (heat ≤ calorificBound) ⌝ }
-    ensures { λ r. ⌜ r ≡ booked perMJ energy (volume * heat) ⌝ }
+// The register with volume × value more, in units of its rest, `unit` of which make one whole.
+fn booked(before: Register, unit: u64, volume: u64, value: u64) -> Register
+    requires { ⌜ (before .rest < unit) × (unit < 2 ^ 62) × (before .whole < 2 ^ 63) ⌝ }
+    requires { ⌜ (volume ≤ mostVolume) × (value < 2 ^ 32) ⌝ }
+    ensures { λ r. ⌜ r ≡ booked unit before (volume * value) ⌝ }
 {
-    let added = volume * heat;
-    let rest = energy.rest + added;
+    let added = volume * value;
+    let rest = before.rest + added;
     Register {
-        whole: energy.whole + rest / 1000000000,
-        rest: rest % 1000000000,
+        whole: before.whole + rest / unit,
+        rest: rest % unit,
     }
 }
 
 // The stream with the volume, and volume × Hs in mJ, added.
 fn metered(before: Stream, volume: u64) -> Stream
     requires { ⌜ SoundStream before ⌝ }
-    requires { ⌜ (volume ≤ 10000000) × (before .volume + volume ≤ 999999999999) ⌝ }
+    requires { ⌜ (volume ≤ mostVolume) × (before .totals .volume + volume ≤ mostTotal) ⌝ }
     ensures { λ r. ⌜ r ≡ metered before volume ⌝ }
 {
     let analysis = before.analysis;
-    let energy = booked(before.energy, volume, hs_in_force(analysis));
+    let energy = booked(before.totals.energy, PER_MJ, volume, hs_in_force(analysis));
     Stream {
         analysis,
-        volume: before.volume + volume,
-        energy,
+        totals: StreamTotals {
+            volume: before.totals.volume + volume,
+            energy,
+        },
     }
 }
 
@@ -220,11 +231,11 @@ pub fn metering(mut meter: Meter, stream: usize, volume: u64) -> Changed
     ensures { λ r. ⌜ Gives (meteringOf meter stream volume) meter (r .verdict) (r .meter) ⌝ }
 {
     let mut refusal: u8 = 13;
-    if stream <= 15 {
+    if stream <= LAST_STREAM {
         let before = meter.streams[stream];
         let analysis = before.analysis;
-        let room = 999999999999 - before.volume;
-        refusal = volume_number(10000000 < volume, no_analysis(analysis), room < volume);
+        let room = MOST_TOTAL - before.totals.volume;
+        refusal = volume_refusal(MOST_VOLUME < volume, no_analysis(analysis), room < volume);
         if refusal == 0 {
             meter.streams[stream] = metered(before, volume);
         }
@@ -239,18 +250,17 @@ pub fn metering(mut meter: Meter, stream: usize, volume: u64) -> Changed
 pub fn totals(meter: Meter, stream: usize) -> TotalsAnswer
     ensures { λ r. ⌜ totalsMeaning r ≡ totalsOf meter stream ⌝ }
 {
-    if 15 < stream {
+    if LAST_STREAM < stream {
         return TotalsAnswer::Refused(13);
     }
     let s = meter.streams[stream];
-    let volume = s.volume;
-    let energy = s.energy;
-    TotalsAnswer::Accepted(StreamTotals { volume, energy })
+    let totals = s.totals;
+    TotalsAnswer::Accepted(totals)
 }
 
 // The mean calorific value of an energy over a volume, in J/m³, or 18.
 fn mean_over(energy: Register, volume: u64) -> MeanAnswer
-    requires { ⌜ SoundRegister perMJ calorificBound volume energy × (volume ≤ 999999999999) ⌝ }
+    requires { ⌜ SoundRegister perMJ calorificBound volume energy × (volume ≤ mostTotal) ⌝ }
     ensures { λ r. ⌜ meanMeaning r ≡ decided (firstOf (zeroOrder (totalZero volume))) (meanIn energy volume) ⌝ }
 {
     if volume == 0 {
@@ -268,9 +278,9 @@ pub fn mean(meter: Meter, stream: usize) -> MeanAnswer
     requires { ⌜ Sound meter ⌝ }
     ensures { λ r. ⌜ meanMeaning r ≡ meanOf meter stream ⌝ }
 {
-    if 15 < stream {
+    if LAST_STREAM < stream {
         return MeanAnswer::Refused(13);
     }
     let s = meter.streams[stream];
-    mean_over(s.energy, s.volume)
+    mean_over(s.totals.energy, s.totals.volume)
 }

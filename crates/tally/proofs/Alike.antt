@@ -7,12 +7,13 @@ use mathlib.Core.Option.{Option, none, some}
 use Prim.Native.Nat.{ℕ, _+_, _*_, _<_}
 use native.Mathlib.Nat.{mod-lt}
 use native.Mathlib.Omega.{arith}
+use lib.Arith.{digits-div, digits-mod}
 use Rattle.rounding.specs.Fraction.{Fraction, whole, plus, times, Within}
 use Rattle.rounding.proofs.FractionLaws.{within-plus, within-times}
 use Rattle.records.specs.Order.{firstOf}
 use Rattle.records.specs.Format.{combustionIn, meteringIn, contentsIn}
 use Rattle.records.proofs.Accepted.{acceptable}
-use Rattle.properties.specs.Chain.{Six, Hs}
+use Rattle.properties.specs.Chain.{Six}
 use Rattle.properties.specs.Unrounded as unrounded
 use Rattle.properties.specs.Answers.{numbers}
 use Rattle.properties.proofs.Gas.{distances}
@@ -20,43 +21,48 @@ use Rattle.properties.proofs.Outcomes.{accepted-properties, clear-of-accepted}
 use Rattle.meter.specs.declared.InForce.{InForce}
 use Rattle.meter.specs.declared.Register.{Register}
 use Rattle.meter.specs.declared.Stream.{Stream}
-use Rattle.meter.specs.State.{hsOf, amountIn, perMJ}
+use Rattle.meter.specs.State.{hsOf, amountIn}
 use Rattle.meter.specs.Conditions.{pairDiffers, noAnalysis, analysisOrder, meteringOrder, meanOrder}
-use Rattle.meter.specs.Calls.{gasOf, analysed, booked, metered, totalsIn, meanIn}
-use Rattle.meter.proofs.Registers.{amount-booked, whole-of, rest-of}
+use Rattle.meter.specs.Calls.{gasOf, analysed, booked, metered, meanIn}
+use Rattle.meter.proofs.Registers.{amount-booked}
 use Rattle.meter.proofs.Orders.{clear-analysis, clear-metering}
-use Rattle.tally.specs.Tally.{analysis, metering, totals, mean, meanIs, Account, grown, StreamTally, otherPair, noRecord, orderOf, meteredBy, leftBy, givenBy}
-use Rattle.tally.specs.Run.{totalsGiven}
-use Rattle.tally.specs.Demand.{SameInForce, nothing, known}
+use Rattle.tally.specs.Tally.{perMJ, analysis, metering, totals, mean, meanIs, Account, partsOf, grown, StreamTally, otherPair, noRecord, orderOf, meteredBy, leftBy, givenBy}
+use Rattle.tally.specs.Run.{partsGiven, totalsGiven}
+use Rattle.tally.specs.Demand.{AccountWithin, SameInForce, nothing, known}
 
 -- the pair of a record in force
-abbrev pub pairOf : Option (List ℕ) → Option (ℕ × ℕ)
+abbrev pairOf : Option (List ℕ) → Option (ℕ × ℕ)
 pairOf none = none
 pairOf (some bs) = some (combustionIn bs, meteringIn bs)
 
 -- a register with u units of its rest to one whole, beside an account at the volume v
-pub record AlikeEnergy (u v : ℕ) (e : Register) (a : Account) : Type 0 where
+pub record AlikeRegister (u v : ℕ) (e : Register) (a : Account) : Type 0 where
   pub rest : e .rest < u
   pub amount : amountIn u e ≡ a .booked
-  pub within : Within (whole (2 * v)) (a .booked) (a .exact)
+  pub within : AccountWithin v a
 
 pub record Alike (s : Stream) (l : StreamTally) : Type 0 where
   pub inForce : SameInForce (s .analysis) (l .inForce)
   pub pair : l .pair ≡ pairOf (l .inForce)
-  pub volume : s .volume ≡ l .volume
-  pub energy : AlikeEnergy perMJ (l .volume) (s .energy) (l .energy)
+  pub volume : s .totals .volume ≡ l .volume
+  pub energy : AlikeRegister perMJ (l .volume) (s .totals .energy) (l .energy)
 
--- a volume w at a calorific value h, which is x unrounded
-energy-grows : (u v w h : ℕ) (x : Fraction) (e : Register) (a : Account) → 0 < u → Within (whole 2) h x → AlikeEnergy u v e a →
-    AlikeEnergy u (v + w) (booked u e (w * h)) (grown w h x a)
-energy-grows u v w h x e a p heat alike =
-    record {
+-- a volume w at a value n that is the record's h, which is x unrounded
+register-grows : (u v w : ℕ) {n h : ℕ} (x : Fraction) (e : Register) (a : Account) → 0 < u → n ≡ h → Within (whole 2) h x → AlikeRegister u v e a →
+    AlikeRegister u (v + w) (booked u e (w * n)) (grown w h x a)
+register-grows u v w {n} {h} x e a p is near alike =
+    rw is
+    (record {
       rest = mod-lt (amountIn u e + w * h) p;
       amount = amount-booked u p e (w * h) ∙ ap (λ (n : ℕ). n + w * h) (alike .amount);
       within =
           subst (λ (t : ℕ). Within (whole t) (a .booked + w * h) (plus (a .exact) (times w x))) (omega arith)
-          (within-plus (2 * v) (w * 2) (a .booked) (w * h) (a .exact) (times w x) (alike .within) (within-times w 2 h x heat));
-    }
+          (within-plus (2 * v) (w * 2) (a .booked) (w * h) (a .exact) (times w x) (alike .within) (within-times w 2 h x near));
+    })
+
+-- the two parts
+parts-alike : (u v : ℕ) (e : Register) (a : Account) → AlikeRegister u v e a → partsGiven e ≡ partsOf u a
+parts-alike u v e a h = cc (digits-div (e .whole) (h .rest), digits-mod (e .whole) (h .rest), h .amount)
 
 -- the same conditions
 same-pair : {i : InForce} {o : Option (List ℕ)} → SameInForce i o → (c m : ℕ) → pairDiffers i c m ≡ otherPair (pairOf o) c m
@@ -95,24 +101,19 @@ module _ (s : Stream) (l : StreamTally) (h : Alike s l) (k : ℕ) where
       go ei eo nothing = elim (true≢false (sym (ap noAnalysis ei) ∙ clear-metering k v s z .analysed)) [ ]
       go ei eo (known bs gas ec em e) =
           let found = clear-of-accepted bs (numbers (gas .properties)) e in
-          let heat : hsOf (s .analysis) ≡ Hs (contentsIn bs) = ap hsOf ei ∙ sym (ap (λ (p : Six). p .Hs) (found .1)) in
           record {
             inForce = h .inForce;
             pair = h .pair;
             volume = ap (λ (n : ℕ). n + v) (h .volume);
             energy =
-                subst
-                (λ (n : ℕ).
-                AlikeEnergy perMJ (l .volume + v) (booked perMJ (s .energy) (v * n)) (grown v (Hs (contentsIn bs)) (unrounded.Hs (contentsIn bs)) (l .energy)))
-                (sym heat)
-                (energy-grows perMJ (l .volume) v (Hs (contentsIn bs)) (unrounded.Hs (contentsIn bs)) (s .energy) (l .energy) (omega arith)
-                (distances (contentsIn bs) (acceptable bs (found .0)) .Hs) (h .energy));
+                register-grows perMJ (l .volume) v (unrounded.Hs (contentsIn bs)) (s .totals .energy) (l .energy) (omega arith)
+                (ap hsOf ei ∙ sym (ap (λ (p : Six). p .Hs) (found .1))) (distances (contentsIn bs) (acceptable bs (found .0)) .Hs) (h .energy);
           }
 
 -- the same readings
 module _ (s : Stream) (l : StreamTally) (h : Alike s l) where
-  pub totals-alike : totalsGiven (totalsIn s) ≡ givenBy totals l
-  totals-alike = cc (h .volume, whole-of perMJ (s .energy) (h .energy .rest), rest-of perMJ (s .energy) (h .energy .rest), h .energy .amount)
+  pub totals-alike : totalsGiven (s .totals) ≡ givenBy totals l
+  totals-alike = cc (h .volume, parts-alike perMJ (l .volume) (s .totals .energy) (l .energy) (h .energy))
 
-  pub mean-alike : meanIs (meanIn (s .energy) (s .volume)) ≡ givenBy mean l
+  pub mean-alike : meanIs (meanIn (s .totals .energy) (s .totals .volume)) ≡ givenBy mean l
   mean-alike = cc (h .energy .amount, h .volume)

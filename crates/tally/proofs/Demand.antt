@@ -1,15 +1,15 @@
 -- Demand 3, for every list of calls from a fresh meter.
 use mathlib.Core.Path.{_≡_, refl, sym, ap, _∙_}
-use mathlib.Core.List.{List}
-use Prim.Native.Nat.{ℕ, zero, suc, _+_, _*_, _≤_, _<_}
+use mathlib.Core.List.{List, _∷_}
+use Prim.Native.Nat.{ℕ, _+_, _*_, _≤_, _<_}
 use native.Mathlib.Nat.{mul-le-mul-right, mul-pos}
 use native.Mathlib.Omega.{arith}
 use borrow.Author.Tests.{le-ltb, ne-eqb, eq-eqb}
-use lib.ListN.{getD, drop, replicate}
+use lib.ListN.{drop}
 use Rattle.rounding.specs.Near.{near}
 use Rattle.rounding.specs.Fraction.{Fraction, whole, dividedBy, Within}
 use Rattle.rounding.proofs.NearLaws.{near-half}
-use Rattle.records.specs.Order.{firstOf, refused, accepted, decided}
+use Rattle.records.specs.Order.{firstOf, accepted, decided}
 use Rattle.records.specs.Format.{combustionIn, meteringIn, contentsIn}
 use Rattle.records.specs.Calls.{readingOf}
 use Rattle.records.proofs.OrderLaws.{decided-accepted}
@@ -18,17 +18,18 @@ use Rattle.properties.proofs.Gas.{every-accepted-record}
 use Rattle.meter.specs.declared.Meter.{Meter}
 use Rattle.meter.specs.State.{Sound, freshStream, freshMeter, streamAt}
 use Rattle.meter.proofs.Orders.{record-clear}
+use Rattle.meter.proofs.Streams.{at-made}
 use Rattle.meter.proofs.Kept.{fresh-is-sound, no-mean-above-ceiling}
-use Rattle.tally.specs.Tally.{analysis, Call, done, Answer, StreamTally, freshStreamTally, Tally, freshTally, tallyAt, above15, otherPair, orderOf, tallyAfter, answersTo, tallied}
+use Rattle.tally.specs.Tally.{lastStream, analysis, Call, done, Answer, StreamTally, freshStreamTally, Tally, freshTally, tallyAt, aboveLast, otherPair, orderOf, tallyAfter, answersTo, tallied}
 use Rattle.tally.specs.Run.{Run, ended, after, by-totals, by-mean}
-use Rattle.tally.specs.Demand.{acceptedVolume, AcceptedIn, here, later, AnalysisShown, nothing, EachLeaves, Claim}
+use Rattle.tally.specs.Demand.{acceptedVolume, AcceptedIn, here, later, AnalysisShown, nothing, no-call, EachLeaves, Claim}
 use Rattle.tally.proofs.Alike.{Alike}
-use Rattle.tally.proofs.Steps.{Linked, required, step, step-leaves}
+use Rattle.tally.proofs.Steps.{Linked, required, Next, both, step}
 use Rattle.tally.proofs.Volumes.{volume-sum}
 
 -- near(n / v) is within t + 1 of x / v, where n is within t × v of x
-mean-within : (t n v : ℕ) (x : Fraction) → 0 < v → Within (whole (t * v)) n x → Within (whole (t + 1)) (near n v) (dividedBy x v)
-mean-within t n v x p h =
+mean-distance : (t n v : ℕ) (x : Fraction) → 0 < v → Within (whole (t * v)) n x → Within (whole (t + 1)) (near n v) (dividedBy x v)
+mean-distance t n v x p h =
     let r = near-half n v p in
     record {
       proper = (mul-pos (h .proper .0) p, omega arith);
@@ -37,53 +38,45 @@ mean-within t n v x p h =
     }
 
 -- the mean of an account beside the stream k of a meter
-account-ceiling : (m : Meter) (k : ℕ) (l : StreamTally) → k < 16 → Sound m → Alike (streamAt m k) l → 0 < l .volume → near (l .energy .booked) (l .volume) ≤ calorificBound
+account-ceiling : (m : Meter) (k : ℕ) (l : StreamTally) → k ≤ lastStream → Sound m → Alike (streamAt m k) l → 0 < l .volume → near (l .energy .booked) (l .volume) ≤ calorificBound
 account-ceiling m k l b sound a p =
     rw (← a .energy .amount, ← a .volume)
-    (no-mean-above-ceiling m k _ sound (rw (le-ltb 15 k (omega arith), ne-eqb (streamAt m k .volume) 0 (omega (arith, a .volume)))))
+    (no-mean-above-ceiling m k _ sound (rw (le-ltb lastStream k b, ne-eqb (streamAt m k .totals .volume) 0 (omega (arith, a .volume)))))
 
 -- a fresh meter beside a fresh tally
 fresh-alike : Alike freshStream freshStreamTally
 fresh-alike = record { inForce = nothing; pair = refl; volume = refl; energy = record { rest = omega arith; amount = refl; within = omega arith } }
 
-everywhere : {A : Type 0} (n k : ℕ) (x : A) → getD (replicate n x) k x ≡ x
-everywhere zero k x = refl
-everywhere (suc n) zero x = refl
-everywhere (suc n) (suc k) x = everywhere n k x
-
 fresh-linked : Linked freshMeter freshTally
 fresh-linked =
-    record { sound = fresh-is-sound; count = refl; each = λ k. rw (everywhere 16 k freshStream, everywhere 16 k freshStreamTally) fresh-alike }
+    record { sound = fresh-is-sound; count = refl; each = λ k. rw (at-made freshStream 16 k, at-made freshStreamTally 16 k) fresh-alike }
 
 -- a list of calls
-record Ran (t : Tally) (cs : List Call) (rs : List Answer) (m : Meter) : Type 0 where
-  pub answers : rs ≡ answersTo t cs
-  pub linked : Linked m (tallied t cs)
+run : {m : Meter} {cs : List Call} {rs : List Answer} {m₂ : Meter} (t : Tally) → Linked m t → Run m cs rs m₂ → Next t m cs rs m₂
+run t h (ended m) = record { answers = refl; linked = h; leaves = no-call m }
+run t h (after m m₁ m₂ cs₁ cs rs₁ rs s more) = let n = step m t h s in both n (run (tallied t cs₁) (n .linked) more)
 
-run : {m : Meter} {cs : List Call} {rs : List Answer} {m₂ : Meter} (t : Tally) → Linked m t → Run m cs rs m₂ → Ran t cs rs m₂
-run t h (ended m) = record { answers = refl; linked = h }
-run t h (after m m₁ m₂ c a cs rs s more) =
-    let n = step m t h s in
-    let r = run (tallyAfter t c) (n .linked) more in
-    record { answers = cc (n .answer, r .answers); linked = r .linked }
-
--- what each call leaves
+-- what each step leaves
 each-leaves : (m : Meter) (cs : List Call) (rs : List Answer) (m₂ : Meter) (t : Tally) → Linked m t → (ran : Run m cs rs m₂) → EachLeaves m cs rs m₂ ran
 unfolding EachLeaves
 each-leaves m cs rs m₂ t h (ended m₀) = tt
-each-leaves m cs rs m₂ t h (after m₀ m₁ m₃ c a cs₁ rs₁ s more) =
-    (step-leaves m₀ m₁ c a (required m₀ (h .sound)) s, each-leaves m₁ cs₁ rs₁ m₃ (tallyAfter t c) (step m₀ t h s .linked) more)
+each-leaves m cs rs m₂ t h (after m₀ m₁ m₃ cs₁ cs₂ rs₁ rs₂ s more) =
+    let n = step m₀ t h s in (n .leaves, each-leaves m₁ cs₂ rs₂ m₃ (tallied t cs₁) (n .linked) more)
 
 -- an accepted analysis of the list
 analysis-shown : (bs : List ℕ) (k : ℕ) (s : StreamTally) → firstOf (orderOf k (analysis bs) s) ≡ 0 → AnalysisShown bs
 analysis-shown bs k s z =
-    let clear = record-clear bs (above15 k) (otherPair (s .pair) (combustionIn bs) (meteringIn bs)) z in
+    let clear = record-clear bs (aboveLast k) (otherPair (s .pair) (combustionIn bs) (meteringIn bs)) z in
     let reads : readingOf bs ≡ accepted (contentsIn bs) = ap (λ (n : ℕ). decided n (contentsIn bs)) clear in
     record { contents = contentsIn bs; reads = reads; shown = every-accepted-record bs (contentsIn bs) reads }
 
+-- the first of two lists of answers
+first : {a b : Answer} {rs ss : List Answer} → a ∷ rs ≡ b ∷ ss → a ≡ b
+first e = cc
+
 analyses : (bs : List ℕ) (t : Tally) {cs : List Call} {rs : List Answer} → rs ≡ answersTo t cs → AcceptedIn bs cs rs → AnalysisShown bs
 analyses bs t e (here k cs rs) =
-    analysis-shown bs k (tallyAt t k) (decided-accepted _ done done (sym (ap (λ (l : List Answer). getD l 0 (refused 0)) e)) .0)
+    analysis-shown bs k (tallyAt t k) (decided-accepted _ done done (sym (first e)) .0)
 analyses bs t e (later c a cs rs more) = analyses bs (tallyAfter t c) (ap (drop 1) e) more
 
 pub demand3 : Claim
@@ -99,14 +92,14 @@ demand3 m₀ m cs rs made ran =
           record {
             volume =
                 omega
-                (arith, volume-sum k b freshTally cs refl, ap (λ (x : StreamTally). x .volume) (everywhere 16 k freshStreamTally), ap (acceptedVolume k cs) (r .answers));
-            totals = λ x got. step m t (r .linked) (by-totals k x got) .answer ∙ rw (le-ltb 15 k (omega arith));
-            mean = λ x got p. step m t (r .linked) (by-mean k x got) .answer ∙ rw (le-ltb 15 k (omega arith), ne-eqb (l .volume) 0 (omega arith));
-            no-mean = λ x got p. step m t (r .linked) (by-mean k x got) .answer ∙ rw (le-ltb 15 k (omega arith), eq-eqb (l .volume) 0 p);
-            within =
+                (arith, volume-sum k b freshTally cs refl, ap (λ (x : StreamTally). x .volume) (at-made freshStreamTally 16 k), ap (acceptedVolume k cs) (r .answers));
+            totals = λ x got. first (step m t (r .linked) (by-totals k x got) .answers) ∙ rw (le-ltb lastStream k b);
+            mean = λ x got p. first (step m t (r .linked) (by-mean k x got) .answers) ∙ rw (le-ltb lastStream k b, ne-eqb (l .volume) 0 (omega arith));
+            no-mean = λ x got p. first (step m t (r .linked) (by-mean k x got) .answers) ∙ rw (le-ltb lastStream k b, eq-eqb (l .volume) 0 p);
+            energy-within = a .energy .within;
+            mean-within =
                 record {
-                  energy = a .energy .within;
-                  mean = λ p. mean-within 2 (l .energy .booked) (l .volume) (l .energy .exact) p (a .energy .within);
+                  distance = λ p. mean-distance 2 (l .energy .booked) (l .volume) (l .energy .exact) p (a .energy .within);
                   ceiling = λ p. account-ceiling m k l b (r .linked .sound) a p;
                 };
             inForce = a .inForce;

@@ -16,7 +16,7 @@ use Rattle.meter.specs.State.{freshMeter, streamAt, withStream}
 use Rattle.meter.specs.Conditions.{analysisOrder, meteringOrder}
 use Rattle.meter.specs.Calls.{analysed, metered, totalsOf, meanOf}
 use Rattle.meter.specs.Answers.{totalsMeaning, meanMeaning}
-use Rattle.tally.specs.Tally.{Ask, analysis, metering, totals, mean, Call, Answer}
+use Rattle.tally.specs.Tally.{Ask, analysis, metering, totals, mean, Call, on, Answer}
 use Rattle.tally.specs.Run.{Step, by-analysis, by-metering, by-totals, by-mean, ended, after}
 use Rattle.tally.specs.Demand.{EveryListHasRun, HasFresh}
 
@@ -52,9 +52,9 @@ changed-gives n m new = gives n new m (otherwise m (decided n new)) (verdictOf n
 record HasStep (m : Meter) (c : Call) : Type 0 where
   pub answer : Answer
   pub meter : Meter
-  pub step : Step m c answer meter
+  pub step : Step m (c ∷ []) (answer ∷ []) meter
 
-has-step : (m : Meter) (k : ℕ) (ask : Ask) → HasStep m (record { stream = k; ask = ask })
+has-step : (m : Meter) (k : ℕ) (ask : Ask) → HasStep m (on k ask)
 has-step m k (analysis bs) =
     let n = firstOf (analysisOrder k bs (streamAt m k)) in
     let new = withStream m k (analysed (streamAt m k) bs) in
@@ -74,5 +74,5 @@ every-list-has-run m (c ∷ cs) =
     record {
       answers = s .answer ∷ r .answers;
       meter = r .meter;
-      run = after m (s .meter) (r .meter) c (s .answer) cs (r .answers) (s .step) (r .run);
+      run = after m (s .meter) (r .meter) (c ∷ []) cs (s .answer ∷ []) (r .answers) (s .step) (r .run);
     }

@@ -1,7 +1,7 @@
 pub mod Cases
-pub mod Alike
-pub mod Steps
-pub mod Volumes
+mod Alike
+mod Steps
+mod Volumes
 pub mod Demand
 pub mod Exists
 pub mod Cited

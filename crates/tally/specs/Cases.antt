@@ -14,7 +14,7 @@ use Rattle.records.specs.Cases.{sameList, sameOutcome, annexD, k2}
 use Rattle.records.specs.Cases as on-record
 use Rattle.properties.specs.Chain.{Six, propertiesOf}
 use Rattle.properties.specs.Cases.{sameSix, printed1, printed2}
-use Rattle.tally.specs.Tally.{Ask, analysis, metering, totals, mean, Call, Given, done, totalsAre, meanIs, Answer, Tally, freshTally, answerTo, tallyAfter}
+use Rattle.tally.specs.Tally.{analysis, metering, totals, mean, Call, on, Given, done, totalsAre, meanIs, Answer, Tally, freshTally, answerTo, tallyAfter}
 
 -- figures of the rule of the component table: a line, the place of a temperature among 25, 20, 15 and 0 °C, the line's h superior and
 -- inferior, twice their difference, its hydrogen atoms a, the superior h of water w, and a × w
@@ -44,9 +44,6 @@ abbrev pub eachNumber : List on-record.Case → List Case → List Case
 eachNumber [] more = more
 eachNumber (c ∷ cs) more = number c ∷ eachNumber cs more
 
-abbrev pub on : ℕ → Ask → Call
-on k ask = record { stream = k; ask = ask }
-
 abbrev pub cases : List Case
 cases =
     six (bytesOf (annexD 15 15)) printed1  -- K1
@@ -56,7 +53,7 @@ cases =
     ((on 0 (metering 1000), refused 16)
     ∷ (on 0 (analysis k2), accepted done)
     ∷ (on 0 (metering 1000), accepted done)
-    ∷ (on 0 totals, accepted (totalsAre 1000 37 781616000))
+    ∷ (on 0 totals, accepted (totalsAre (record { volume = 1000; energy = record { whole = 37; rest = 781616000 } })))
     ∷ (on 0 mean, accepted (meanIs 37781616))
     ∷ [])  -- K9
     ∷ rule (record { line = 23; place = 0; superior = 2700200; inferior = 2524100; twice = 352200; atoms = 8; water = 44016; product = 352128 })  -- K10
@@ -65,7 +62,7 @@ cases =
 -- the same answer: the number of a refusal, or the figures that are given
 abbrev pub figuresOf : Given → List ℕ
 figuresOf done = []
-figuresOf (totalsAre v w r) = v ∷ w ∷ r ∷ []
+figuresOf (totalsAre t) = t .volume ∷ t .energy .whole ∷ t .energy .rest ∷ []
 figuresOf (meanIs x) = x ∷ []
 
 abbrev pub sameAnswer : Answer → Answer → Bool

@@ -23,16 +23,16 @@ use Rattle.meter.specs.declared.Meter.{Meter}
 use Rattle.meter.specs.declared.TotalsAnswer.{TotalsAnswer}
 use Rattle.meter.specs.declared.MeanAnswer.{MeanAnswer}
 use Rattle.meter.specs.State.{streamAt}
-use Rattle.tally.specs.Tally.{Ask, analysis, metering, totals, mean, Call, done, Answer, Account, StreamTally, givenBy, tallyAt, freshTally, answersTo, tallied}
+use Rattle.tally.specs.Tally.{lastStream, Ask, analysis, metering, totals, mean, Call, on, done, Answer, Account, StreamTally, givenBy, tallyAt, freshTally, answersTo, tallied}
 use Rattle.tally.specs.Run.{AnalysisAsks, MeteringAsks, TotalsAsks, MeanAsks, FreshReturns, TotalsReturns, MeanReturns, totalsAnswer, meanAnswer, Run, ended, after}
 
 -- the volume that a call added: that of an accepted metering call
 abbrev pub addedBy : Ask → Answer → ℕ
-addedBy (analysis bs) a = 0
-addedBy (metering v) (refused n) = 0
+addedBy ask (refused n) = 0
+addedBy (analysis bs) (accepted g) = 0
 addedBy (metering v) (accepted g) = v
-addedBy totals a = 0
-addedBy mean a = 0
+addedBy totals (accepted g) = 0
+addedBy mean (accepted g) = 0
 
 -- the sum of the volumes that were accepted for the stream k
 abbrev pub acceptedVolume : ℕ → List Call → List Answer → ℕ
@@ -42,7 +42,7 @@ acceptedVolume k (c ∷ cs) (a ∷ rs) = cond (eqb (c .stream) k) (addedBy (c .a
 
 -- an analysis with the record bs stands in the list, and was accepted
 pub data AcceptedIn (bs : List ℕ) : List Call → List Answer → Type 0 where
-  here : (k : ℕ) (cs : List Call) (rs : List Answer) → AcceptedIn bs (record { stream = k; ask = analysis bs } ∷ cs) (accepted done ∷ rs)
+  here : (k : ℕ) (cs : List Call) (rs : List Answer) → AcceptedIn bs (on k (analysis bs) ∷ cs) (accepted done ∷ rs)
   later : (c : Call) (a : Answer) (cs : List Call) (rs : List Answer) → AcceptedIn bs cs rs → AcceptedIn bs (c ∷ cs) (a ∷ rs)
 
 -- what a record reads as, with its properties, their ceilings and their distances from the unrounded formula
@@ -57,11 +57,13 @@ pub data SameInForce : InForce → Option (List ℕ) → Type 0 where
   known : (bs : List ℕ) (gas : Gas) → gas .combustion ≡ combustionIn bs → gas .metering ≡ meteringIn bs →
       accepted (numbers (gas .properties)) ≡ propertiesOf bs → SameInForce (Known gas) (some bs)
 
--- the booked energy E is within 2 mJ per dm³ of V from the exact energy X, and where V is above 0 the mean is within 3 J/m³ of X / V,
--- and not above the ceiling of a calorific value
-pub record AccountWithin (v : ℕ) (a : Account) : Type 0 where
-  pub energy : Within (whole (2 * v)) (a .booked) (a .exact)
-  pub mean : 0 < v → Within (whole 3) (near (a .booked) v) (dividedBy (a .exact) v)
+-- what is booked is within 2 of its unit per dm³ of V from what is exact: of energy 2 mJ per dm³
+abbrev pub AccountWithin : ℕ → Account → Type 0
+AccountWithin v a = Within (whole (2 * v)) (a .booked) (a .exact)
+
+-- where V is above 0 the mean is within 3 J/m³ of X / V, and not above the ceiling of a calorific value
+pub record MeanWithin (v : ℕ) (a : Account) : Type 0 where
+  pub distance : 0 < v → Within (whole 3) (near (a .booked) v) (dividedBy (a .exact) v)
   pub ceiling : 0 < v → near (a .booked) v ≤ calorificBound
 
 -- the stream k after the list; s is what the tally keeps for it
@@ -73,7 +75,8 @@ pub record StreamDemand (k : ℕ) (s : StreamTally) (cs : List Call) (rs : List 
   -- a reading of the mean made then answers near(E / V), or 18 where V is 0
   pub mean : (r : MeanAnswer) → MeanReturns m k r → 0 < s .volume → meanAnswer r ≡ accepted (givenBy mean s)
   pub no-mean : (r : MeanAnswer) → MeanReturns m k r → s .volume ≡ 0 → meanAnswer r ≡ refused 18
-  pub within : AccountWithin (s .volume) (s .energy)
+  pub energy-within : AccountWithin (s .volume) (s .energy)
+  pub mean-within : MeanWithin (s .volume) (s .energy)
   pub inForce : SameInForce (streamAt m k .analysis) (s .inForce)
 
 -- what the contracts require of a meter, with any other arguments
@@ -96,17 +99,23 @@ pub record Leaves (m : Meter) (c : Call) (a : Answer) (m₁ : Meter) : Type 0 wh
   pub reading : isReading (c .ask) ≡ true → m₁ ≡ m
   pub others : (j : ℕ) → (j ≡ c .stream → ⊥) → streamAt m₁ j ≡ streamAt m j
 
--- each call of a list, on the meter as the call before it returned or left it
+-- each call that a step counts as; between two of them there is a meter
+pub data StepLeaves : Meter → List Call → List Answer → Meter → Type 0 where
+  no-call : (m : Meter) → StepLeaves m [] [] m
+  next-call : (m m₁ m₂ : Meter) (c : Call) (a : Answer) (cs : List Call) (rs : List Answer) → Leaves m c a m₁ → StepLeaves m₁ cs rs m₂ →
+      StepLeaves m (c ∷ cs) (a ∷ rs) m₂
+
+-- each step of a list, on the meter as the one before it returned or left it
 unfoldable pub EachLeaves : (m : Meter) (cs : List Call) (rs : List Answer) (m' : Meter) → Run m cs rs m' → Type 0
 EachLeaves m cs rs m' (ended m₁) = Unit
-EachLeaves m cs rs m' (after m₀ m₁ m₂ c a cs₁ rs₁ s more) = Leaves m₀ c a m₁ × EachLeaves m₁ cs₁ rs₁ m₂ more
+EachLeaves m cs rs m' (after m₀ m₁ m₂ cs₁ cs₂ rs₁ rs₂ s more) = StepLeaves m₀ cs₁ rs₁ m₁ × EachLeaves m₁ cs₂ rs₂ m₂ more
 
 -- the list cs from the meter m₀, with the answers rs and the meter m after it
 pub record Demand3 (m₀ : Meter) (cs : List Call) (rs : List Answer) (m : Meter) (ran : Run m₀ cs rs m) : Type 0 where
   -- each call is accepted where the tally accepts it, refused by the tally's number where not, and each accepted reading answers what
   -- the tally gives
   pub answers : rs ≡ answersTo freshTally cs
-  pub each : (k : ℕ) → k < 16 → StreamDemand k (tallyAt (tallied freshTally cs) k) cs rs m
+  pub each : (k : ℕ) → k ≤ lastStream → StreamDemand k (tallyAt (tallied freshTally cs) k) cs rs m
   -- each accepted analysis of the list
   pub analyses : (bs : List ℕ) → AcceptedIn bs cs rs → AnalysisShown bs
   -- each refused call and each reading of the list leaves the meter as it was, and each call every stream but the named one

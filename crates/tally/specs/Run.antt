@@ -1,6 +1,6 @@
 -- What the functions of crates/meter did on a list of calls: each step is what the contract of the function promises of the value that
 -- it returned. `Asked` is what the contract requires and `Learnt` what it ensures, both as the checker reads them from the code.
-use mathlib.Core.List.{List, [], _∷_}
+use mathlib.Core.List.{List, [], _∷_, _++_}
 use Prim.Native.Nat.{ℕ}
 use contract.Lifetimes.{Lfts}
 use denote.Ref.{RefT, now}
@@ -9,6 +9,7 @@ use Rattle.records.specs.Order.{mapped}
 use Rattle.records.specs.Answers.{meaning}
 use Rattle.meter.specs.declared.Meter.{Meter}
 use Rattle.meter.specs.declared.Changed.{Changed}
+use Rattle.meter.specs.declared.Register.{Register}
 use Rattle.meter.specs.declared.StreamTotals.{StreamTotals}
 use Rattle.meter.specs.declared.TotalsAnswer.{TotalsAnswer}
 use Rattle.meter.specs.declared.MeanAnswer.{MeanAnswer}
@@ -18,7 +19,7 @@ use Rattle.meter.proofs.analysis.Reads as analysis-reads
 use Rattle.meter.proofs.metering.Reads as metering-reads
 use Rattle.meter.proofs.totals.Reads as totals-reads
 use Rattle.meter.proofs.mean.Reads as mean-reads
-use Rattle.tally.specs.Tally.{analysis, metering, totals, mean, Call, Given, done, totalsAre, meanIs, Answer}
+use Rattle.tally.specs.Tally.{analysis, metering, totals, mean, Call, on, Parts, Given, done, totalsAre, meanIs, Answer}
 
 -- what the contract of each function requires
 abbrev pub AnalysisAsks : Lfts 1 → Meter → ℕ → RefT (List ℕ) → Type 0
@@ -54,8 +55,11 @@ MeanReturns m k r = MeanAsks m k → mean-reads.Learnt tt (m, (k, tt)) r (m, (k,
 abbrev pub changeAnswer : Verdict → Answer
 changeAnswer v = meaning v done
 
+abbrev pub partsGiven : Register → Parts
+partsGiven e = record { whole = e .whole; rest = e .rest }
+
 abbrev pub totalsGiven : StreamTotals → Given
-totalsGiven t = totalsAre (t .volume) (t .energy .whole) (t .energy .rest)
+totalsGiven t = totalsAre (record { volume = t .volume; energy = partsGiven (t .energy) })
 
 abbrev pub totalsAnswer : TotalsAnswer → Answer
 totalsAnswer r = mapped totalsGiven (totalsMeaning r)
@@ -63,19 +67,16 @@ totalsAnswer r = mapped totalsGiven (totalsMeaning r)
 abbrev pub meanAnswer : MeanAnswer → Answer
 meanAnswer r = mapped meanIs (meanMeaning r)
 
--- one call on a meter: its answer, and the meter that it returned, or that it left as it was
-pub data Step (m : Meter) : Call → Answer → Meter → Type 0 where
+-- one call of a function on a meter: the calls that it counts as, their answers, and the meter that it returned, or that it left as
+-- it was
+pub data Step (m : Meter) : List Call → List Answer → Meter → Type 0 where
   by-analysis : (κs : Lfts 1) (k : ℕ) (b : RefT (List ℕ)) (r : Changed) → AnalysisReturns κs m k b r →
-      Step m (record { stream = k; ask = analysis (now b) }) (changeAnswer (r .verdict)) (r .meter)
-  by-metering : (k v : ℕ) (r : Changed) → MeteringReturns m k v r →
-      Step m (record { stream = k; ask = metering v }) (changeAnswer (r .verdict)) (r .meter)
-  by-totals : (k : ℕ) (r : TotalsAnswer) → TotalsReturns m k r →
-      Step m (record { stream = k; ask = totals }) (totalsAnswer r) m
-  by-mean : (k : ℕ) (r : MeanAnswer) → MeanReturns m k r →
-      Step m (record { stream = k; ask = mean }) (meanAnswer r) m
+      Step m (on k (analysis (now b)) ∷ []) (changeAnswer (r .verdict) ∷ []) (r .meter)
+  by-metering : (k v : ℕ) (r : Changed) → MeteringReturns m k v r → Step m (on k (metering v) ∷ []) (changeAnswer (r .verdict) ∷ []) (r .meter)
+  by-totals : (k : ℕ) (r : TotalsAnswer) → TotalsReturns m k r → Step m (on k totals ∷ []) (totalsAnswer r ∷ []) m
+  by-mean : (k : ℕ) (r : MeanAnswer) → MeanReturns m k r → Step m (on k mean ∷ []) (meanAnswer r ∷ []) m
 
--- a list of calls, each on the meter as the call before returned or left it
+-- a list of calls, each step on the meter as the one before returned or left it
 pub data Run : Meter → List Call → List Answer → Meter → Type 0 where
   ended : (m : Meter) → Run m [] [] m
-  after : (m m₁ m₂ : Meter) (c : Call) (a : Answer) (cs : List Call) (rs : List Answer) → Step m c a m₁ → Run m₁ cs rs m₂ →
-      Run m (c ∷ cs) (a ∷ rs) m₂
+  after : (m m₁ m₂ : Meter) (cs₁ cs : List Call) (rs₁ rs : List Answer) → Step m cs₁ rs₁ m₁ → Run m₁ cs rs m₂ → Run m (cs₁ ++ cs) (rs₁ ++ rs) m₂

@@ -14,6 +14,19 @@ use Rattle.records.specs.Conditions.{recordOrder}
 use Rattle.properties.specs.Chain.{Hs}
 use Rattle.properties.specs.Unrounded as unrounded
 
+-- the last stream; the most that one metering call adds, and that a volume total comes to, in dm³; mJ in 1 MJ
+abbrev pub lastStream : ℕ
+lastStream = 15
+
+abbrev pub mostVolume : ℕ
+mostVolume = 10000000
+
+abbrev pub mostTotal : ℕ
+mostTotal = 999999999999
+
+abbrev pub perMJ : ℕ
+perMJ = 1000000000
+
 -- what a call asks: an analysis with its record, a metering with its volume in dm³, or one of the two readings
 pub data Ask : Type 0 where
   analysis : List ℕ → Ask
@@ -26,23 +39,39 @@ pub record Call : Type 0 where
   pub stream : ℕ
   pub ask : Ask
 
--- what an accepted call gives: an analysis or a metering only that it is done; totals the volume, whole MJ and rest in mJ; the mean a
--- number of J/m³
+abbrev pub on : ℕ → Ask → Call
+on k ask = record { stream = k; ask = ask }
+
+-- an amount in two parts
+pub record Parts : Type 0 where
+  pub whole : ℕ
+  pub rest : ℕ
+
+-- the totals of a stream: the volume in dm³, and the energy as whole MJ and a rest in mJ
+pub record Totals : Type 0 where
+  pub volume : ℕ
+  pub energy : Parts
+
+-- what an accepted call gives: an analysis or a metering only that it is done, a reading the totals, or the mean in J/m³
 pub data Given : Type 0 where
   done : Given
-  totalsAre : ℕ → ℕ → ℕ → Given
+  totalsAre : Totals → Given
   meanIs : ℕ → Given
 
 -- the answer to a call: the number of its refusal, or what it gives
 abbrev pub Answer : Type 0
 Answer = Outcome Given
 
--- an energy in mJ: E as booked, and X exact
+-- what a stream took, as booked and exact: of energy in mJ these are E and X
 pub record Account : Type 0 where
   pub booked : ℕ
   pub exact : Fraction
 
--- v more dm³ at a calorific value that is h, and x unrounded: E grows by v × h, and X by v × x, by cross multiplication
+-- what is booked, u of whose unit make one whole, in two parts
+abbrev pub partsOf : ℕ → Account → Parts
+partsOf u a = record { whole = a .booked / u; rest = a .booked % u }
+
+-- v more dm³ at a value that is h, and x unrounded: what is booked grows by v × h, and what is exact by v × x, by cross multiplication
 abbrev pub grown : ℕ → ℕ → Fraction → Account → Account
 grown v h x a = record { booked = a .booked + v * h; exact = plus (a .exact) (times v x) }
 
@@ -58,19 +87,23 @@ abbrev pub freshStreamTally : StreamTally
 freshStreamTally = record { inForce = none; pair = none; volume = 0; energy = record { booked = 0; exact = whole 0 } }
 
 -- the streams 0 to 15
-abbrev pub Tally : Type 0
-Tally = List StreamTally
+pub record Tally : Type 0 where
+  pub streams : List StreamTally
 
 abbrev pub freshTally : Tally
-freshTally = replicate 16 freshStreamTally
+freshTally = record { streams = replicate 16 freshStreamTally }
 
 -- what is kept for the stream k, and a fresh one above 15, where 13 has refused the call
 abbrev pub tallyAt : Tally → ℕ → StreamTally
-tallyAt t k = getD t k freshStreamTally
+tallyAt t k = getD (t .streams) k freshStreamTally
+
+-- the tally with another stream k
+abbrev pub withTally : Tally → ℕ → StreamTally → Tally
+withTally t k s = record { streams = set (t .streams) k s }
 
 -- the conditions 13 to 18 over what the tally keeps, written apart from those of the meter. 13: stream above 15
-abbrev pub above15 : ℕ → Bool
-above15 k = ltb 15 k
+abbrev pub aboveLast : ℕ → Bool
+aboveLast k = ltb lastStream k
 
 -- 14: pair is not the stream's; while there is no pair, it does not hold
 abbrev pub otherPair : Option (ℕ × ℕ) → ℕ → ℕ → Bool
@@ -79,7 +112,7 @@ otherPair (some pair) c m = not (eqb (pair .0) c) || not (eqb (pair .1) m)
 
 -- 15: volume above 10,000,000
 abbrev pub largeVolume : ℕ → Bool
-largeVolume v = ltb 10000000 v
+largeVolume v = ltb mostVolume v
 
 -- 16: stream has no analysis
 abbrev pub noRecord : Option (List ℕ) → Bool
@@ -88,7 +121,7 @@ noRecord (some bs) = false
 
 -- 17: volume total would pass 999,999,999,999
 abbrev pub wouldPass : ℕ → ℕ → Bool
-wouldPass total v = ltb 999999999999 (total + v)
+wouldPass total v = ltb mostTotal (total + v)
 
 -- 18: mean wanted at volume total 0
 abbrev pub noVolume : ℕ → Bool
@@ -97,10 +130,10 @@ noVolume total = eqb total 0
 -- the conditions in the call's order, on the stream k with the tally's own pair, record and V: analysis 13, 1 to 12, 14; metering
 -- 13, 15, 16, 17; totals 13; mean 13, 18
 abbrev pub orderOf : ℕ → Ask → StreamTally → Order
-orderOf k (analysis bs) s = (13, above15 k) ∷ recordOrder bs ++ ((14, otherPair (s .pair) (combustionIn bs) (meteringIn bs)) ∷ [])
-orderOf k (metering v) s = (13, above15 k) ∷ (15, largeVolume v) ∷ (16, noRecord (s .inForce)) ∷ (17, wouldPass (s .volume) v) ∷ []
-orderOf k totals s = (13, above15 k) ∷ []
-orderOf k mean s = (13, above15 k) ∷ (18, noVolume (s .volume)) ∷ []
+orderOf k (analysis bs) s = (13, aboveLast k) ∷ recordOrder bs ++ ((14, otherPair (s .pair) (combustionIn bs) (meteringIn bs)) ∷ [])
+orderOf k (metering v) s = (13, aboveLast k) ∷ (15, largeVolume v) ∷ (16, noRecord (s .inForce)) ∷ (17, wouldPass (s .volume) v) ∷ []
+orderOf k totals s = (13, aboveLast k) ∷ []
+orderOf k mean s = (13, aboveLast k) ∷ (18, noVolume (s .volume)) ∷ []
 
 -- an accepted volume v: V grows by v, E by v × Hs, X by v × the unrounded Hs, both of the record in force; with no record, 16 has
 -- refused it
@@ -120,7 +153,7 @@ leftBy mean s = s
 abbrev pub givenBy : Ask → StreamTally → Given
 givenBy (analysis bs) s = done
 givenBy (metering v) s = done
-givenBy totals s = totalsAre (s .volume) (s .energy .booked / 1000000000) (s .energy .booked % 1000000000)
+givenBy totals s = totalsAre (record { volume = s .volume; energy = partsOf perMJ (s .energy) })
 givenBy mean s = meanIs (near (s .energy .booked) (s .volume))
 
 -- one call: refused by the first condition that holds, and then the tally stays as it is, or accepted
@@ -131,7 +164,7 @@ abbrev pub answerTo : Tally → Call → Answer
 answerTo t c = decided (numberFor t c) (givenBy (c .ask) (tallyAt t (c .stream)))
 
 abbrev pub tallyAfter : Tally → Call → Tally
-tallyAfter t c = otherwise t (decided (numberFor t c) (set t (c .stream) (leftBy (c .ask) (tallyAt t (c .stream)))))
+tallyAfter t c = otherwise t (decided (numberFor t c) (withTally t (c .stream) (leftBy (c .ask) (tallyAt t (c .stream)))))
 
 -- a list of calls: the answers, and the tally after it
 abbrev pub answersTo : Tally → List Call → List Answer

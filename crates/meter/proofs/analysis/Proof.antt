@@ -5,6 +5,7 @@ use mathlib.Core.Logic.{⊎-elim}
 use Prim.Native.Nat.{ℕ}
 use native.Mathlib.Omega.{arith}
 use borrow.Author.Needs.{needs}
+use lib.ListN.{drop}
 use Rattle.records.specs.Order.{refused, accepted}
 use Rattle.records.proofs.Heads.{Head}
 use Rattle.properties.specs.declared.Answer.{Answer}
@@ -15,8 +16,9 @@ use Rattle.properties.specs.Answers.{numbers, meaning}
 use Rattle.properties.proofs.Outcomes.{number-of-refused}
 use Rattle.meter.specs.declared.Meter.{Meter}
 use Rattle.meter.specs.State.{streamAt, withStream}
+use Rattle.meter.specs.Conditions.{analysisOrder}
 use Rattle.meter.specs.Calls.{withGas, analysed}
-use Rattle.meter.proofs.Orders.{analysis-above}
+use Rattle.meter.proofs.Orders.{above}
 use Rattle.meter.proofs.Outcomes.{gives-refusal, gives-answer, written}
 use Rattle.meter.proofs.Analyses.{gas-is, record-head, record-refused, record-accepted}
 use Rattle.meter.proofs.analysis.Statement.{statement}
@@ -46,44 +48,11 @@ long c =
     let s = a .before .before .before in
     record-head (bs s) (c .properties .given .0 .0) (is-accepted s (a .properties-of .ensures) (c .properties .given .1))
 
-properties-of-requires : tie.Need-properties-of-requires
-properties-of-requires c κs = search needs
-
-enum-known-refusal : tie.Need-enum-known-refusal
-enum-known-refusal c = search needs
-
-enum-known-properties : tie.Need-enum-known-properties
-enum-known-properties c = search needs
-
-mul-before : tie.Need-mul-before
-mul-before c = search needs
-
-element-copy-out-before : tie.Need-element-copy-out-before
-element-copy-out-before c = search needs
-
 shared-slice-read-combustion : tie.Need-shared-slice-read-combustion
 shared-slice-read-combustion c = omega (arith, long (c .before .before .before) .long)
 
 shared-slice-read-metering : tie.Need-shared-slice-read-metering
 shared-slice-read-metering c = omega (arith, long (c .before .before .before .before) .long)
-
-pair-differs-requires : tie.Need-pair-differs-requires
-pair-differs-requires c κs = search needs
-
-pair-number-requires : tie.Need-pair-number-requires
-pair-number-requires c κs = search needs
-
-analysed-requires : tie.Need-analysed-requires
-analysed-requires c κs = search needs
-
-mul-t24 : tie.Need-mul-t24
-mul-t24 c = search needs
-
-element-set-from-meter : tie.Need-element-set-from-meter
-element-set-from-meter c = search needs
-
-verdict-of-requires : tie.Need-verdict-of-requires
-verdict-of-requires c κs = search needs
 
 returns : tie.Need-returns
 returns c =
@@ -105,24 +74,24 @@ returns c =
     (λ x.
     let e = is-accepted s (x .1 .ensures) (x .3 .given .1) in
     gives-refusal new (m s) v (x .12 ∙ record-accepted (m s) (k s) (bs s) (x .0 .taken) _ e (x .8 .ensures) (x .9 .ensures)) (λ z. omega (arith, x .12, x .10 .left)) (x .11))
-    (λ x. gives-refusal new (m s) v (x .2 ∙ analysis-above (k s) (bs s) old (x .0 .left)) (λ z. omega (arith, x .2)) (x .1))))
+    (λ x. gives-refusal new (m s) v (x .2 ∙ above (drop 1 (analysisOrder (k s) (bs s) old)) (x .0 .left)) (λ z. omega (arith, x .2)) (x .1))))
     (j .if1 .came)
 
 pub analysis-spec : {M : Type 1} → statement M
 analysis-spec =
     tie.close
     (tie.spec
-    properties-of-requires
-    enum-known-refusal
-    enum-known-properties
-    mul-before
-    element-copy-out-before
+    (λ c κs. search needs)
+    (λ c. search needs)
+    (λ c. search needs)
+    (λ c. search needs)
+    (λ c. search needs)
     shared-slice-read-combustion
     shared-slice-read-metering
-    pair-differs-requires
-    pair-number-requires
-    analysed-requires
-    mul-t24
-    element-set-from-meter
-    verdict-of-requires
+    (λ c κs. search needs)
+    (λ c κs. search needs)
+    (λ c κs. search needs)
+    (λ c. search needs)
+    (λ c. search needs)
+    (λ c κs. search needs)
     returns)

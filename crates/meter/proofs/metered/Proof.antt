@@ -1,43 +1,14 @@
 -- The volume and its energy.
-use mathlib.Core.Path.{_≡_, sym, ap, subst, _∙_}
-use Prim.Native.Nat.{ℕ, _+_, _*_, _≤_}
 use native.Mathlib.Omega.{arith}
 use borrow.Author.Needs.{needs}
-use Rattle.properties.specs.Quantities.{calorificBound}
-use Rattle.meter.specs.declared.Register.{Register}
-use Rattle.meter.specs.declared.Stream.{Stream}
-use Rattle.meter.specs.State.{perMJ}
-use Rattle.meter.specs.Calls.{booked, metered}
 use Rattle.meter.proofs.metered.Statement.{statement}
 use Rattle.meter.proofs.metered.Tie as tie
 
--- a heat below the ceiling
-low : {h x : ℕ} → h ≡ x → x ≤ calorificBound → h ≤ calorificBound
-low e = subst (λ (n : ℕ). n ≤ calorificBound) (sym e)
-
--- a register fed with v × h
-fed : {e : Register} (before : Register) (v : ℕ) {h x : ℕ} → e ≡ booked perMJ before (v * h) → h ≡ x → e ≡ booked perMJ before (v * x)
-fed before v e heat = e ∙ ap (λ (n : ℕ). booked perMJ before (v * n)) heat
-
--- the stream with the register that was fed
-stream-is : (s : Stream) (v : ℕ) {e : Register} → e ≡ metered s v .energy →
-    _≡_ {A = Stream} (record { analysis = s .analysis; volume = s .volume + v; energy = e }) (metered s v)
-stream-is s v p = λ i. record { analysis = s .analysis; volume = s .volume + v; energy = p i }
-
-hs-in-force-requires : tie.Need-hs-in-force-requires
-hs-in-force-requires c κs = search needs
-
 booked-requires : tie.Need-booked-requires
-booked-requires c κs = let p = c .before .pre in ((p .0 .energy .rest, omega (arith, p .0 .energy .amount, p .0 .volume)), (p .1 .0, low (c .hs-in-force .ensures) (p .0 .Hs)))
-
-add-t5 : tie.Need-add-t5
-add-t5 c = search needs
-
-returns : tie.Need-returns
-returns c =
-    let b = c .before in
-    let a = b .before .before .args in
-    stream-is (a .before) (a .volume) (fed (a .before .energy) (a .volume) (b .booked .ensures) (b .before .hs-in-force .ensures))
+booked-requires c κs =
+    let p = c .before .pre in
+    let t = p .0 .totals in
+    ((t .energy .rest, omega arith, omega (arith, t .energy .amount, t .volume)), (p .1 .0, omega (arith, c .hs-in-force .ensures, p .0 .Hs)))
 
 pub metered-spec : {M : Type 1} → statement M
-metered-spec = tie.close (tie.spec hs-in-force-requires booked-requires add-t5 returns)
+metered-spec = tie.close (tie.spec (λ c κs. search needs) booked-requires (λ c. search needs) (λ c. cc))

@@ -6,13 +6,14 @@ use Prim.Native.Nat.{ℕ, _-_, _≤_}
 use native.Mathlib.Omega.{arith}
 use borrow.Author.Needs.{needs}
 use lib.Dec.{ltb}
+use lib.ListN.{drop}
 use Rattle.records.specs.Order.{firstOf}
 use Rattle.meter.specs.declared.Stream.{Stream}
 use Rattle.meter.specs.declared.Meter.{Meter}
-use Rattle.meter.specs.State.{SoundStream, streamAt, withStream}
+use Rattle.meter.specs.State.{lastStream, mostTotal, SoundStream, streamAt, withStream}
 use Rattle.meter.specs.Conditions.{volumeAbove, noAnalysis, volumeOrder, meteringOrder}
 use Rattle.meter.specs.Calls.{metered}
-use Rattle.meter.proofs.Orders.{metering-above, metering-number-is, clear-metering}
+use Rattle.meter.proofs.Orders.{above, metering-number-is, clear-metering}
 use Rattle.meter.proofs.Outcomes.{gives-refusal, gives-answer, written}
 use Rattle.meter.proofs.metering.Statement.{statement}
 use Rattle.meter.proofs.metering.Tie as tie
@@ -31,45 +32,24 @@ module _ (c : tie.Start) where
   abbrev stream : Stream
   stream = streamAt m k
 
-  sound : k ≤ 15 → SoundStream stream
-  sound low = c .pre .each k (omega arith)
+  sound : k ≤ lastStream → SoundStream stream
+  sound low = c .pre .each k low
 
   -- the number that was found on a stream up to 15
-  found : k ≤ 15 → {none : Bool} {n : ℕ} → none ≡ noAnalysis (stream .analysis) →
-      n ≡ firstOf (volumeOrder (volumeAbove w) none (ltb (999999999999 - stream .volume) w)) → n ≡ firstOf (meteringOrder k w stream)
-  found low {none} is e = e ∙ metering-number-is k w stream none low (sound low .volume) is
-
-mul-before : tie.Need-mul-before
-mul-before c = search needs
-
-element-copy-out-before : tie.Need-element-copy-out-before
-element-copy-out-before c = search needs
+  found : k ≤ lastStream → {none : Bool} {n : ℕ} → none ≡ noAnalysis (stream .analysis) →
+      n ≡ firstOf (volumeOrder (volumeAbove w) none (ltb (mostTotal - stream .totals .volume) w)) → n ≡ firstOf (meteringOrder k w stream)
+  found low {none} is e = e ∙ metering-number-is k w stream none low (sound low .totals .volume) is
 
 sub-room : tie.Need-sub-room
-sub-room c = let d = c .before .before in omega (arith, sound (d .before) (d .if1 .taken) .volume)
-
-no-analysis-requires : tie.Need-no-analysis-requires
-no-analysis-requires c κs = search needs
-
-volume-number-requires : tie.Need-volume-number-requires
-volume-number-requires c κs = search needs
+sub-room c = let d = c .before .before in omega (arith, sound (d .before) (d .if1 .taken) .totals .volume)
 
 metered-requires : tie.Need-metered-requires
 metered-requires c κs =
     let d = c .before in
     let b = d .before .before .before .before in
     let s = b .before in
-    let free = clear-metering (k s) (w s) (stream s) (omega (arith, found s (b .if1 .taken) (d .before .no-analysis .ensures) (d .volume-number .ensures))) in
+    let free = clear-metering (k s) (w s) (stream s) (omega (arith, found s (b .if1 .taken) (d .before .no-analysis .ensures) (d .volume-refusal .ensures))) in
     (sound s (b .if1 .taken), (free .volume, free .total))
-
-mul-t18 : tie.Need-mul-t18
-mul-t18 c = search needs
-
-element-set-from-meter : tie.Need-element-set-from-meter
-element-set-from-meter c = search needs
-
-verdict-of-requires : tie.Need-verdict-of-requires
-verdict-of-requires c κs = search needs
 
 returns : tie.Need-returns
 returns c =
@@ -81,20 +61,20 @@ returns c =
     (λ x. gives-answer new (m s) v (x .8 ∙ found s (x .0 .taken) (x .3 .ensures) (x .4 .ensures)) (omega arith) (written (m s) (k s) (x .7) (omega arith) (x .6 .ensures)))
     (⊎-elim
     (λ x. gives-refusal new (m s) v (x .7 ∙ found s (x .0 .taken) (x .3 .ensures) (x .4 .ensures)) (λ z. omega arith) (x .6))
-    (λ x. gives-refusal new (m s) v (x .2 ∙ metering-above (k s) (w s) (stream s) (x .0 .left)) (λ z. omega (arith, x .2)) (x .1)))
+    (λ x. gives-refusal new (m s) v (x .2 ∙ above (drop 1 (meteringOrder (k s) (w s) (stream s))) (x .0 .left)) (λ z. omega (arith, x .2)) (x .1)))
     (j .if1 .came)
 
 pub metering-spec : {M : Type 1} → statement M
 metering-spec =
     tie.close
     (tie.spec
-    mul-before
-    element-copy-out-before
+    (λ c. search needs)
+    (λ c. search needs)
     sub-room
-    no-analysis-requires
-    volume-number-requires
+    (λ c κs. search needs)
+    (λ c κs. search needs)
     metered-requires
-    mul-t18
-    element-set-from-meter
-    verdict-of-requires
+    (λ c. search needs)
+    (λ c. search needs)
+    (λ c κs. search needs)
     returns)

@@ -7,14 +7,8 @@ use Rattle.meter.proofs.totals.Tie as tie
 returns : tie.Need-returns
 returns c = simp (lt-ltb _ _ (c .if1 .taken))
 
-mul-s : tie.Need-mul-s
-mul-s c = search needs
-
-element-copy-out-s : tie.Need-element-copy-out-s
-element-copy-out-s c = search needs
-
 returns-2 : tie.Need-returns-2
 returns-2 c = simp (le-ltb _ _ (c .before .before .if1 .left))
 
 pub totals-spec : {M : Type 1} → statement M
-totals-spec = tie.close (tie.spec returns mul-s element-copy-out-s returns-2)
+totals-spec = tie.close (tie.spec returns (λ c. search needs) (λ c. search needs) returns-2)
