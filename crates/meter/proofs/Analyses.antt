@@ -4,10 +4,11 @@ use mathlib.Core.Bool.{Bool}
 use mathlib.Core.List.{List, _++_}
 use Prim.Native.Nat.{ℕ, _≤_}
 use Rattle.records.specs.Order.{Order, firstOf, refused, accepted}
-use Rattle.records.specs.Format.{combustionIn, meteringIn, linesIn, fractionsIn}
-use Rattle.records.specs.Conditions.{headOrder, contentOrder, recordOrder}
-use Rattle.records.proofs.OrderLaws.{stops, passes, clear-first}
-use Rattle.records.proofs.Heads.{Head, head}
+use Rattle.records.specs.Format.{combustionIn, meteringIn}
+use Rattle.records.specs.Conditions.{recordOrder}
+use Rattle.records.proofs.OrderLaws.{stops, passes}
+use Rattle.records.proofs.Heads.{Head}
+use Rattle.records.proofs.RoundTrips.{accepted-head}
 use Rattle.properties.specs.declared.Properties.{Properties}
 use Rattle.properties.specs.Chain.{Six, propertiesOf}
 use Rattle.properties.specs.Answers.{numbers, quantities}
@@ -28,7 +29,7 @@ gas-is p bs e =
 
 -- the head of an accepted record
 pub record-head : (bs : List ℕ) (p : Properties) → accepted (numbers p) ≡ propertiesOf bs → Head bs
-record-head bs p e = head bs (clear-first (headOrder bs) (contentOrder (linesIn bs) (fractionsIn bs)) tt (clear-of-accepted bs (numbers p) e .0))
+record-head bs p e = accepted-head bs (clear-of-accepted bs (numbers p) e .0)
 
 -- the number of an analysis call, where the record is refused, and where it is accepted
 module _ (m : Meter) (k : ℕ) (bs : List ℕ) where

@@ -138,8 +138,8 @@ pub fn analysis(mut meter: Meter, stream: usize, bytes: &[u8]) -> Changed
             Answer::Accepted(properties) => {
                 let before = meter.streams[stream];
                 let earlier = before.analysis;
-                let combustion = bytes[5];
-                let metering = bytes[6];
+                let combustion = records::combustion_in(bytes);
+                let metering = records::metering_in(bytes);
                 refusal = pair_refusal(pair_differs(earlier, combustion, metering));
                 if refusal == 0 {
                     let gas = Gas {

@@ -48,12 +48,6 @@ long c =
     let s = a .before .before .before in
     record-head (bs s) (c .properties .given .0 .0) (is-accepted s (a .properties-of .ensures) (c .properties .given .1))
 
-shared-slice-read-combustion : tie.Need-shared-slice-read-combustion
-shared-slice-read-combustion c = omega (arith, long (c .before .before .before) .long)
-
-shared-slice-read-metering : tie.Need-shared-slice-read-metering
-shared-slice-read-metering c = omega (arith, long (c .before .before .before .before) .long)
-
 returns : tie.Need-returns
 returns c =
     let j = c .before in
@@ -68,12 +62,12 @@ returns c =
     (⊎-elim
     (λ x.
     let e = is-accepted s (x .1 .ensures) (x .3 .given .1) in
-    gives-answer new (m s) v (x .13 ∙ record-accepted (m s) (k s) (bs s) (x .0 .taken) _ e (x .8 .ensures) (x .9 .ensures)) (omega (arith, x .13, x .10 .taken))
-    (written (m s) (k s) (x .12) (omega arith) (x .11 .ensures ∙ ap (withGas old) (gas-is _ (bs s) e))))
+    gives-answer new (m s) v (x .13 ∙ record-accepted (m s) (k s) (bs s) (x .0 .taken) _ e (rw (x .6 .ensures, x .7 .ensures) at (x .8 .ensures)) (x .9 .ensures)) (omega (arith, x .13, x .10 .taken))
+    (written (m s) (k s) (x .12) (omega arith) (rw (x .6 .ensures, x .7 .ensures) at (x .11 .ensures) ∙ ap (withGas old) (gas-is _ (bs s) e))))
     (⊎-elim
     (λ x.
     let e = is-accepted s (x .1 .ensures) (x .3 .given .1) in
-    gives-refusal new (m s) v (x .12 ∙ record-accepted (m s) (k s) (bs s) (x .0 .taken) _ e (x .8 .ensures) (x .9 .ensures)) (λ z. omega (arith, x .12, x .10 .left)) (x .11))
+    gives-refusal new (m s) v (x .12 ∙ record-accepted (m s) (k s) (bs s) (x .0 .taken) _ e (rw (x .6 .ensures, x .7 .ensures) at (x .8 .ensures)) (x .9 .ensures)) (λ z. omega (arith, x .12, x .10 .left)) (x .11))
     (λ x. gives-refusal new (m s) v (x .2 ∙ above (drop 1 (analysisOrder (k s) (bs s) old)) (x .0 .left)) (λ z. omega (arith, x .2)) (x .1))))
     (j .if1 .came)
 
@@ -86,8 +80,8 @@ analysis-spec =
     (λ c. search needs)
     (λ c. search needs)
     (λ c. search needs)
-    shared-slice-read-combustion
-    shared-slice-read-metering
+    (λ c κs. long (c .before .before) .long)
+    (λ c κs. long (c .before .before .before) .long)
     (λ c κs. search needs)
     (λ c κs. search needs)
     (λ c κs. search needs)
