@@ -1,10 +1,9 @@
--- Bounds of the sums of a composition with at least 500,000 ppm of methane (the house limit of document 01), whatever its other
--- lines are.
+-- Bounds of the sums of a composition with the least fraction of methane or more, whatever its other lines are.
 use mathlib.Core.List.{List}
 use Prim.Native.Nat.{ℕ, _≤_, _<_}
 use lib.IntN.{natAbs}
 use Rattle.components.specs.Table.{molarMass, summation, Heat}
-use Rattle.components.specs.Composition.{Composition, fractionFor, sumOf}
+use Rattle.components.specs.Composition.{Composition, leastMethane, fractionFor, sumOf}
 
 -- Hm, superior or inferior, unit 10^-9 kJ/mol
 abbrev pub heatLow : ℕ
@@ -32,4 +31,4 @@ pub record Bounds (ls xs : List ℕ) : Type 0 where
   pub summation-high : (k : ℕ) → k < 3 → natAbs (sumOf (summation k) ls xs) ≤ summationHigh
 
 abbrev pub MethaneBounds : Type 0
-MethaneBounds = (ls xs : List ℕ) → Composition ls xs → 500000 ≤ fractionFor 1 ls xs → Bounds ls xs
+MethaneBounds = (ls xs : List ℕ) → Composition ls xs → leastMethane ≤ fractionFor 1 ls xs → Bounds ls xs

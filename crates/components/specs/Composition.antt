@@ -39,8 +39,15 @@ Ascending before (l ∷ ls) = (before < l) × (l ≤ 55) × Ascending l ls
 abbrev pub SumsRunOverAllLines : Type 0
 SumsRunOverAllLines = (c : ℕ) (ls xs : List ℕ) → Ascending 0 ls → overLines c 55 ls xs ≡ sumOf c ls xs
 
--- as many fractions as line numbers, each line one of the table, and the fractions at most 1,000,100 in all
+-- the most that the fractions come to, and the least fraction of methane (a house limit, a term of document 01), in ppm
+abbrev pub mostSum : ℕ
+mostSum = 1000100
+
+abbrev pub leastMethane : ℕ
+leastMethane = 500000
+
+-- as many fractions as line numbers, each line one of the table, and the fractions no more than they may come to
 pub record Composition (ls xs : List ℕ) : Type 0 where
   pub same : length ls ≡ length xs
   pub lines : (k : ℕ) → k < length ls → (1 ≤ getD ls k 0) × (getD ls k 0 ≤ 55)
-  pub sum : total xs ≤ 1000100
+  pub sum : total xs ≤ mostSum

@@ -10,7 +10,7 @@ use lib.ListN.{length, getD}
 use Rattle.components.specs.Composition.{Ascending, total}
 use Rattle.records.specs.Order.{firstOf}
 use Rattle.records.specs.Format.{linesIn, fractionsIn, contentsIn}
-use Rattle.records.specs.Conditions.{lineBreaks, contentOrder, recordOrder}
+use Rattle.records.specs.Conditions.{leastSum, lineBreaks, contentOrder, recordOrder}
 use Rattle.records.specs.Accepted.{Acceptable, AcceptedIsAcceptable}
 use Rattle.records.proofs.OrderLaws.{unmet, neither, decided-accepted}
 use Rattle.records.proofs.Entries.{count-lines, count-fractions}
@@ -33,7 +33,7 @@ in-table before (l ∷ ls) a (suc k) h = in-table l ls (a .2) k (omega arith)
 pub acceptable : (bs : List ℕ) → firstOf (recordOrder bs) ≡ 0 → Acceptable (contentsIn bs)
 acceptable bs h =
     let o = unmet (contentOrder (linesIn bs) (fractionsIn bs)) tt (accepted-content bs h) in
-    let sum = neither (ltb (total (fractionsIn bs)) 999900) _ (o 9) in
+    let sum = neither (ltb (total (fractionsIn bs)) leastSum) _ (o 9) in
     let up = ascends 0 (linesIn bs) (o 7) in
     record {
       composition = record {

@@ -7,10 +7,10 @@ use borrow.Author.Tests.{le-ltb, eq-eqb, ne-eqb, ltb-false, not-false, eqb-true}
 use lib.Dec.{ltb}
 use lib.ListN.{length, getD, take, drop, take-append-drop, length-drop}
 use lib.Seq.{take-suc, getD-drop}
-use Rattle.components.specs.Composition.{total}
+use Rattle.components.specs.Composition.{mostSum, total}
 use Rattle.records.specs.Order.{Order, firstOf, accepted, decided}
 use Rattle.records.specs.Format.{Contents, Bytes, entriesAt, recordLength, number4, combustionIn, meteringIn, countIn, entriesIn, linesOf, fractionsOf, linesIn, fractionsIn, contentsIn, headBytes, entryBytes, entriesBytes, bytesOf, placed}
-use Rattle.records.specs.Conditions.{headOrder, contentOrder, recordOrder, startOrder, roomOrder, writerOrder, rewriteOrder}
+use Rattle.records.specs.Conditions.{leastSum, headOrder, contentOrder, recordOrder, startOrder, roomOrder, writerOrder, rewriteOrder}
 use Rattle.records.specs.Calls.{readingOf, writingOf, rewritingOf}
 use Rattle.records.specs.RoundTrips.{FillsItsBytes, ReadThenWritten, WrittenThenRead}
 use Rattle.records.proofs.OrderLaws.{passes, clear-first, clear-second, unmet, neither, decided-accepted}
@@ -135,8 +135,8 @@ module _ (k : Contents) (room : ℕ) (h : firstOf (writerOrder k room) ≡ 0) wh
   content-clear : firstOf content ≡ 0
   content-clear = clear-first content last tt (clear-second (startOrder k) (content ++ last) tt h)
 
-  sum-inside : total (k .fractions) ≤ 1000100
-  sum-inside = ltb-false 1000100 (total (k .fractions)) (neither (ltb (total (k .fractions)) 999900) _ (unmet content tt content-clear 9) .1)
+  sum-inside : total (k .fractions) ≤ mostSum
+  sum-inside = ltb-false mostSum (total (k .fractions)) (neither (ltb (total (k .fractions)) leastSum) _ (unmet content tt content-clear 9) .1)
 
   contents-again : contentsIn (bytesOf k) ≡ k
   contents-again = rw (lines-again (k .lines) (k .fractions) (started .same), fractions-again (k .lines) (k .fractions) (started .same) (omega (arith, sum-inside)))

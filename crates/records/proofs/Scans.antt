@@ -14,7 +14,7 @@ use lib.Seq.{drop-cons}
 use Rattle.components.specs.Composition.{total, fractionFor}
 use Rattle.components.proofs.SumLaws.{total-step}
 use Rattle.records.specs.Order.{firstOf}
-use Rattle.records.specs.Conditions.{methane, water, limitOf, lineBreaks, fractionZero, aboveLimit, anyAbove, limitsOrder, linesOrder, fractionsOrder}
+use Rattle.records.specs.Conditions.{methane, water, lineBreaks, fractionZero, sumOutside, methaneLow, aboveLimit, anyAbove, waterHigh, limitsOrder, linesOrder, fractionsOrder}
 use Rattle.records.proofs.OrderLaws.{unmet, neither}
 
 -- the line number of an entry decides 7, or the entries after it do
@@ -139,7 +139,7 @@ found-all line ls xs before noted k h (inl (p, e)) = e
 found-all line ls xs before noted k h (inr (z, e)) = e ∙ rw (drop-of-length-le ls h, z)
 
 module _ {ls xs : List ℕ} {sum ofMethane : ℕ} {above : Bool} {ofWater k : ℕ} (n : Noted ls xs sum ofMethane above ofWater k) (hl : length ls ≤ k) (hx : length xs ≤ k) where
-  pub all-noted : {r : ℕ} → r ≡ firstOf (limitsOrder (ltb sum 999900 || ltb 1000100 sum) (ltb ofMethane 500000) above (ltb (limitOf water) ofWater))
+  pub all-noted : {r : ℕ} → r ≡ firstOf (limitsOrder (sumOutside sum) (methaneLow ofMethane) above (waterHigh ofWater))
       → r ≡ firstOf (fractionsOrder ls xs)
   unfolding fractionZero anyAbove total
   all-noted e =

@@ -2,7 +2,7 @@
 use mathlib.Core.Path.{_≡_}
 use mathlib.Core.List.{List}
 use Prim.Native.Nat.{ℕ, _≤_}
-use Rattle.components.specs.Composition.{Composition, Ascending, fractionFor}
+use Rattle.components.specs.Composition.{Composition, Ascending, leastMethane, fractionFor}
 use Rattle.records.specs.Order.{accepted}
 use Rattle.records.specs.Format.{Contents}
 use Rattle.records.specs.Conditions.{methane}
@@ -14,7 +14,7 @@ pub record Acceptable (k : Contents) : Type 0 where
   -- each line number is above the one before
   pub ascending : Ascending 0 (k .lines)
   -- methane is at its house limit or above it
-  pub share : 500000 ≤ fractionFor methane (k .lines) (k .fractions)
+  pub share : leastMethane ≤ fractionFor methane (k .lines) (k .fractions)
 
 abbrev pub AcceptedIsAcceptable : Type 0
 AcceptedIsAcceptable = (bs : List ℕ) (k : Contents) → readingOf bs ≡ accepted k → Acceptable k

@@ -5,7 +5,7 @@ use mathlib.Core.List.{List, [], _∷_, _++_}
 use Prim.Native.Nat.{ℕ}
 use lib.Dec.{eqb, leb, ltb}
 use lib.ListN.{length, getD}
-use Rattle.components.specs.Composition.{total, fractionFor}
+use Rattle.components.specs.Composition.{mostSum, leastMethane, total, fractionFor}
 use Rattle.records.specs.Order.{Order, numbersOf}
 use Rattle.records.specs.Format.{Contents, mark, version, headLength, recordLength, versionIn, combustionIn, meteringIn, countIn, linesIn, fractionsIn}
 
@@ -78,13 +78,16 @@ unfoldable pub fractionZero : List ℕ → Bool
 fractionZero [] = false
 fractionZero (x ∷ xs) = eqb x 0 || fractionZero xs
 
--- 9: sum outside its range
-abbrev pub sumOutside : List ℕ → Bool
-sumOutside xs = ltb (total xs) 999900 || ltb 1000100 (total xs)
+-- 9: sum outside its range, which ends at 1,000,100
+abbrev pub leastSum : ℕ
+leastSum = 999900
 
--- 10: methane too low; 500,000 is a house limit, a term of document 01
-abbrev pub methaneLow : List ℕ → List ℕ → Bool
-methaneLow ls xs = ltb (fractionFor methane ls xs) 500000
+abbrev pub sumOutside : ℕ → Bool
+sumOutside sum = ltb sum leastSum || ltb mostSum sum
+
+-- 10: methane too low, below 500,000
+abbrev pub methaneLow : ℕ → Bool
+methaneLow x = ltb x leastMethane
 
 -- 11: a line other than methane and water above its limit
 abbrev pub aboveLimit : ℕ → ℕ → Bool
@@ -96,8 +99,8 @@ anyAbove (l ∷ ls) [] = false
 anyAbove (l ∷ ls) (x ∷ xs) = aboveLimit l x || anyAbove ls xs
 
 -- 12: water above 200
-abbrev pub waterHigh : List ℕ → List ℕ → Bool
-waterHigh ls xs = ltb (limitOf water) (fractionFor water ls xs)
+abbrev pub waterHigh : ℕ → Bool
+waterHigh x = ltb (limitOf water) x
 
 -- 19: the two lists differ in length
 abbrev pub listsDiffer : List ℕ → List ℕ → Bool
@@ -124,7 +127,9 @@ abbrev pub linesOrder : List ℕ → Order
 linesOrder ls = (7, lineBreaks 0 ls) ∷ []
 
 abbrev pub fractionsOrder : List ℕ → List ℕ → Order
-fractionsOrder ls xs = (8, fractionZero xs) ∷ limitsOrder (sumOutside xs) (methaneLow ls xs) (anyAbove ls xs) (waterHigh ls xs)
+fractionsOrder ls xs =
+    (8, fractionZero xs)
+    ∷ limitsOrder (sumOutside (total xs)) (methaneLow (fractionFor methane ls xs)) (anyAbove ls xs) (waterHigh (fractionFor water ls xs))
 
 -- the order of a record, in two parts: 1 to 6, and 7 to 12, which the writer shares
 abbrev pub headOrder : List ℕ → Order
