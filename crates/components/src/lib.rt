@@ -19,7 +19,7 @@ pub fn entry(line: u8, column: usize) -> i32
 }
 
 // The s of a row at the k-th of 0, 15 and 20 °C, and its h superior and h inferior at the t-th of 25, 20, 15 and 0 °C, each
-// counted from 0.
+// counted from 0. By a match, since an index would put the row on the stack.
 fn summation(row: [i32; 12], k: usize) -> i32
     requires { ⌜ k < 3 ⌝ }
     ensures { λ r. ⌜ r ≡ getD row (summation k) (pos 0) ⌝ }
