@@ -68,7 +68,7 @@ enum loonstool_number {
 #define LOONSTOOL_RECORD_BYTES(n) (8 + 5 * (n))
 
 /* Bytes of stack that a call takes at most, the 128 below the stack pointer included, and beside memcpy's own. */
-#define LOONSTOOL_STACK_PROPERTIES_OF 3600
+#define LOONSTOOL_STACK_PROPERTIES_OF 400
 #define LOONSTOOL_STACK_READ 1000
 #define LOONSTOOL_STACK_WRITE 400
 

@@ -24,10 +24,16 @@ module _ (c : tie.After-writer-refusal) where
   abbrev old : List ℕ
   old = begin .args .out .now
 
+  abbrev number : ℕ
+  number = firstOf (writerOrder k (length old))
+
+  clear : c .writer-refusal .result ≡ 0 → number ≡ 0
+  clear z = sym (c .writer-refusal .ensures) ∙ z
+
 put-record-requires : tie.Need-put-record-requires
 put-record-requires c κs =
     let w = c .before .before in
-    let r = room-of (k w) (length (old w)) (sym (w .writer-refusal .ensures) ∙ c .before .if1 .taken) in
+    let r = room-of (k w) (length (old w)) (clear w (c .before .if1 .taken)) in
     ((r .same, r .few), r .fits)
 
 -- the buffer afterwards
@@ -37,8 +43,8 @@ after j =
     let w = j .before in
     let new = placed (old w) 0 (bytesOf (k w)) in
     ⊎-elim
-    (λ x. (ap length (x .5) ∙ x .2 .kept .1 .1 .1 .1 .0, x .5 ∙ x .2 .ensures ∙ gives-accepted _ new (old w) (sym (w .writer-refusal .ensures) ∙ x .0 .taken) .stands))
-    (λ x. (ap length (x .1), x .1 ∙ gives-refused _ _ new (old w) (w .writer-refusal .ensures) (x .0 .left) .stands))
+    (λ x. (ap length (x .5) ∙ x .2 .kept .1 .1 .1 .1 .0, x .5 ∙ x .2 .ensures ∙ gives-accepted (number w) new (old w) (clear w (x .0 .taken)) .stands))
+    (λ x. (ap length (x .1), x .1 ∙ gives-refused (number w) _ new (old w) (w .writer-refusal .ensures) (x .0 .left) .stands))
     (j .if1 .came)
 
 same-length : tie.Need-same-length
@@ -47,7 +53,7 @@ same-length c = after (c .before) .0
 returns : tie.Need-returns
 returns c =
     let w = c .before .before in
-    gives (firstOf (writerOrder (k w) (length (old w)))) (placed (old w) 0 (bytesOf (k w))) (old w) _ _ (rw (w .writer-refusal .ensures) at (c .verdict-of .ensures)) (after (c .before) .1)
+    gives (number w) (placed (old w) 0 (bytesOf (k w))) (old w) _ _ (rw (w .writer-refusal .ensures) at (c .verdict-of .ensures)) (after (c .before) .1)
 
 pub write-spec : {M : Type 1} → statement M
 write-spec =
