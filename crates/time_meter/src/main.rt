@@ -55,41 +55,23 @@ fn metered(m: Meter) -> Meter
     after
 }
 
-fn print_refused(number: u8) {
-    report::print_text(b" ");
-    report::print_refused(number);
-}
-
-fn print_totals(m: Meter, stream: usize) {
-    match meter::totals(m, stream) {
-        TotalsAnswer::Accepted(t) => {
-            let energy = t.energy;
-            report::print_spaced(t.volume);
-            report::print_spaced(energy.whole);
-            report::print_spaced(energy.rest);
-        }
-        TotalsAnswer::Refused(number) => print_refused(number),
-    }
-}
-
-fn print_mean(m: Meter, stream: usize)
-    requires { ⌜ Sound m ⌝ }
-{
-    match meter::mean(m, stream) {
-        MeanAnswer::Accepted(h) => {
-            report::print_spaced(h.value());
-        }
-        MeanAnswer::Refused(number) => print_refused(number),
-    }
-}
-
+// The line of a stream. No reading of one that has taken volume is refused.
 fn print_stream(m: Meter, stream: usize)
     requires { ⌜ Sound m ⌝ }
 {
+    let TotalsAnswer::Accepted(totals) = meter::totals(m, stream) else {
+        return;
+    };
+    let MeanAnswer::Accepted(mean) = meter::mean(m, stream) else {
+        return;
+    };
+    let energy = totals.energy;
     report::print_number(stream as u64);
-    print_totals(m, stream);
-    print_mean(m, stream);
-    report::print_text(b"\n");
+    report::print_spaced(totals.volume);
+    report::print_spaced(energy.whole);
+    report::print_spaced(energy.rest);
+    report::print_spaced(mean.value());
+    report::end_line();
 }
 
 fn print_streams(m: Meter)

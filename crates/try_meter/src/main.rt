@@ -23,11 +23,11 @@ fn print_call(name: &[u8], stream: usize) {
     report::print_spaced(stream as u64);
 }
 
-// The line's end after a call that answers a verdict, or that is refused.
+// The verdict of a call, and the line's end.
 fn print_verdict(verdict: Verdict) {
-    report::print_text(b": ");
-    report::print_verdict(verdict);
-    report::print_text(b"\n");
+    report::print_text(b":");
+    report_answers::print_verdict(verdict);
+    report::end_line();
 }
 
 fn analysis(m: Meter, stream: usize, title: &[u8], bytes: &[u8]) -> Meter

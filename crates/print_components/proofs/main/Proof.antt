@@ -1,6 +1,5 @@
 -- Each line is one of the table.
 use Prim.Native.Nat.{_≤_, _-_}
-use native.Mathlib.Omega.{arith}
 use borrow.Author.Needs.{needs}
 use Rattle.print_components.proofs.main.Statement.{statement}
 use Rattle.print_components.proofs.main.Tie as tie
@@ -11,37 +10,16 @@ Inv-loop table line₀ line = (1 ≤ line) × (line ≤ 56)
 abbrev μ-loop : tie.MeasureT-loop
 μ-loop table line₀ line = 56 - line
 
-component-table-requires : tie.Need-component-table-requires Inv-loop μ-loop
-component-table-requires c κs = search needs
-
-loop-holds : tie.Need-loop-holds Inv-loop μ-loop
-loop-holds c = search needs
-
-print-line-requires : tie.Need-print-line-requires Inv-loop μ-loop
-print-line-requires c κs = (c .before .before .before .component-table .ensures, (omega arith, omega arith))
-
-add-line : tie.Need-add-line Inv-loop μ-loop
-add-line c = search needs
-
-loop-less : tie.Need-loop-less Inv-loop μ-loop
-loop-less c = search needs
-
-loop-again : tie.Need-loop-again Inv-loop μ-loop
-loop-again c = search needs
-
-returns : tie.Need-returns Inv-loop μ-loop
-returns c = search needs
-
 pub main-spec : {M : Type 1} → statement M
 main-spec =
     tie.close
     (tie.spec
     Inv-loop
     μ-loop
-    component-table-requires
-    loop-holds
-    print-line-requires
-    add-line
-    loop-less
-    loop-again
-    returns)
+    (λ c κs. search needs)
+    (λ c. search needs)
+    (λ c κs. search needs)
+    (λ c. search needs)
+    (λ c. search needs)
+    (λ c. search needs)
+    (λ c. search needs))
