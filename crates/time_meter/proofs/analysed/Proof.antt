@@ -31,21 +31,12 @@ loop-again c =
       analysis-keeps (l .after) (l .stream) (d .before .before .methane .result) _ _ (d .analysis .ensures) (l .inv .2),
     )
 
-returns : tie.Need-returns Inv-loop μ-loop
-returns c = let e : c .before .loop .stream ≡ 16 = omega arith in (rw (← e) (c .before .loop .inv .1), c .before .loop .inv .2)
-
 pub analysed-spec : {M : Type 1} → statement M
 analysed-spec =
     tie.close
     (tie.spec
-    Inv-loop
-    μ-loop
+    Inv-loop μ-loop
     loop-holds
-    (λ c κs. search needs)
-    (λ c κs. search needs)
-    (λ c. search needs)
-    (λ c κs. search needs)
-    (λ c. search needs)
-    (λ c. search needs)
+    (λ c κs. search needs) (λ c κs. search needs) (λ c. search needs) (λ c κs. search needs) (λ c. search needs) (λ c. search needs)
     loop-again
-    returns)
+    (λ c. let e : c .before .loop .stream ≡ 16 = omega arith in (rw (← e) (c .before .loop .inv .1), c .before .loop .inv .2)))

@@ -1,7 +1,5 @@
 -- A meter as made is sound.
-use mathlib.Core.Path.{sym, subst}
 use borrow.Author.Needs.{needs}
-use Rattle.meter.specs.State.{Sound}
 use Rattle.meter.proofs.Kept.{fresh-is-sound}
 use Rattle.time_meter.proofs.main.Statement.{statement}
 use Rattle.time_meter.proofs.main.Tie as tie
@@ -11,7 +9,5 @@ main-spec =
     tie.close
     (tie.spec
     (λ c κs. search needs)
-    (λ c κs. subst Sound (sym (c .fresh .ensures)) fresh-is-sound)
-    (λ c κs. search needs)
-    (λ c κs. search needs)
-    (λ c. search needs))
+    (λ c κs. rw (c .fresh .ensures) fresh-is-sound)
+    (λ c κs. search needs) (λ c κs. search needs) (λ c. search needs))

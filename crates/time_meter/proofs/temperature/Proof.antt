@@ -4,4 +4,6 @@ use Rattle.time_meter.proofs.temperature.Statement.{statement}
 use Rattle.time_meter.proofs.temperature.Tie as tie
 
 pub temperature-spec : {M : Type 1} → statement M
-temperature-spec = tie.close (tie.spec (λ c. rw (eq-eqb _ 0 (c .if1 .taken))) (λ c. rw (ne-eqb _ 0 (c .if1 .left))))
+temperature-spec = tie.close (tie.spec
+    (λ c. rw (eq-eqb _ 0 (c .if1 .taken)))
+    (λ c. rw (ne-eqb _ 0 (c .if1 .left))))

@@ -1,8 +1,6 @@
 -- The letter of the call is tested in the definition's order.
-use mathlib.Core.Path.{sym, subst}
 use borrow.Author.Needs.{needs}
 use borrow.Author.Tests.{eq-eqb, ne-eqb}
-use Rattle.meter.specs.State.{Sound}
 use Rattle.meter.proofs.Kept.{fresh-is-sound}
 use Rattle.try_meter.proofs.called.Statement.{statement}
 use Rattle.try_meter.proofs.called.Tie as tie
@@ -30,13 +28,12 @@ called-spec =
     tie.close
     (tie.spec
     (λ c κs. search needs)
-    (λ c. (rw (eq-eqb _ 110 (c .before .if1 .taken)) (c .fresh .ensures), subst Sound (sym (c .fresh .ensures)) fresh-is-sound))
+    (λ c. (rw (eq-eqb _ 110 (c .before .if1 .taken)) (c .fresh .ensures), rw (c .fresh .ensures) fresh-is-sound))
     (λ c κs. search needs)
     returns-2
     (λ c κs. search needs)
     returns-3
     (λ c κs. search needs)
     returns-4
-    (λ c κs. search needs)
-    (λ c κs. search needs)
+    (λ c κs. search needs) (λ c κs. search needs)
     returns-5)
