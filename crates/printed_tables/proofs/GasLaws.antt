@@ -9,8 +9,8 @@ use Rattle.rounding.specs.Near.{near}
 use Rattle.components.specs.Table.{componentTable, molarMass, summation, superior}
 use Rattle.components.specs.Composition.{Composition, total, sumOf, overLines, fractionFor}
 use Rattle.properties.specs.Chain.{HmSuperior, M, S, D, T}
-use Rattle.printed_tables.specs.declared.gas.Sums.{Sums}
-use Rattle.printed_tables.specs.Gas.{gas, lineAt, fractionAt, massPart, volumePart, sumTo, sumsOf}
+use Rattle.printed_tables.specs.declared.gas.Totals.{Totals}
+use Rattle.printed_tables.specs.Gas.{gas, lineAt, fractionAt, massPart, volumePart, sumTo, gasTotals}
 use Rattle.printed_tables.specs.TableD1.{rowColumns, rowWeight, rowScale, rowUnits}
 use Rattle.printed_tables.specs.Text.{textSteps, idealH, idealD}
 use Rattle.printed_tables.proofs.NumberLaws.{at-most, at-least}
@@ -53,7 +53,7 @@ pub s-value : natAbs (S gas) ≡ 478542000
 unfolding S overLines fractionFor componentTable
 s-value = refl
 
-module _ {s : Sums} (e : s ≡ sumsOf) where
+module _ {s : Totals} (e : s ≡ gasTotals) where
   pub h-sum : s .h ≡ 919085816000
   h-sum = rw e h-value
 

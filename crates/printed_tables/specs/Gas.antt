@@ -7,7 +7,7 @@ use Rattle.components.specs.Table.{molarMass, superior}
 use Rattle.records.specs.Format.{Contents}
 use Rattle.records.specs.Cases.{annexD}
 use Rattle.properties.specs.Chain.{HmSuperior, M, S, D, idealCalorific}
-use Rattle.printed_tables.specs.declared.gas.Sums.{Sums}
+use Rattle.printed_tables.specs.declared.gas.Totals.{Totals}
 use Rattle.printed_tables.specs.Figures.{numberOf}
 
 abbrev pub gas : Contents
@@ -36,8 +36,8 @@ sumTo zero f = 0
 sumTo (suc n) f = sumTo n f + f n
 
 -- the sums of x H, x M, x s and x, and formulas (7) and (9)
-abbrev pub sumsOf : Sums
-sumsOf =
+abbrev pub gasTotals : Totals
+gasTotals =
     record {
       h = HmSuperior gas;
       m = M gas;

@@ -3,7 +3,7 @@ ghost use mathlib.Core.Path.{_≡_};
 ghost use Prim.Native.Nat.{_<_};
 ghost use Rattle.components.specs.Table.{componentTable};
 ghost use Rattle.properties.specs.Answers.{numbers};
-ghost use Rattle.printed_tables.specs.Gas.{sumsOf};
+ghost use Rattle.printed_tables.specs.Gas.{gasTotals};
 ghost use Rattle.printed_tables.specs.Text.{textValues, textFigure};
 use super::gas;
 use super::parts;
@@ -54,8 +54,8 @@ pub fn print_name(k: usize) -> bool {
 
 // The values whose figures are printed, from the sums and the properties of the gas: h_m is the ideal calorific value per kilogram, J/kg,
 // and the ideal relative density has 1 for the compression factor of air.
-fn values(sums: gas::Sums, p: Properties) -> Values
-    requires { ⌜ sums ≡ sumsOf ⌝ }
+fn values(sums: gas::Totals, p: Properties) -> Values
+    requires { ⌜ sums ≡ gasTotals ⌝ }
     ensures { λ r. ⌜ r ≡ textValues (numbers p) ⌝ }
 {
     let divisor = steps::divisor(15);
@@ -90,7 +90,7 @@ pub fn figure(values: &Values, k: usize) -> u64
 fn print_counts(table: &Table, p: Properties)
     requires { ⌜ now table ≡ componentTable ⌝ }
 {
-    let values = values(gas::sums_of(table), p);
+    let values = values(gas::gas_totals(table), p);
     let none = parts::Counts::new();
     let rows = parts::count(none, Part::TableD1, &table_d1::FIGURES, table, &values);
     let counts = parts::count(rows, Part::Text, &text::FIGURES, table, &values);

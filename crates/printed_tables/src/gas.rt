@@ -4,7 +4,7 @@ ghost use Prim.Native.Nat.{_<_};
 ghost use Rattle.components.specs.Table.{componentTable};
 ghost use Rattle.properties.specs.Chain.{M};
 ghost use Rattle.printed_tables.specs.Figures.{numberOf};
-ghost use Rattle.printed_tables.specs.Gas.{gas, lineAt, fractionAt, massPart, volumePart, sumsOf};
+ghost use Rattle.printed_tables.specs.Gas.{gas, lineAt, fractionAt, massPart, volumePart, gasTotals};
 ghost use Rattle.printed_tables.specs.TableD1.{rowWeight, rowScale, rowFigure};
 use super::tables;
 use super::tables::Table;
@@ -70,7 +70,7 @@ pub fn figure(table: &Table, k: usize) -> u64
 }
 
 // The sums of x H, x M, x s and x, of formula (7), unit 10^-12 MJ/kg, and of formula (9), unit 10^-6 J/m³.
-pub struct Sums {
+pub struct Totals {
     pub h: u64,
     pub m: u64,
     pub s: u64,
@@ -101,13 +101,13 @@ fn volume_part(table: &Table, i: usize) -> u64
     fraction(i) * steps::ideal_calorific_value(1000000 * h, steps::divisor(15))
 }
 
-pub fn sums_of(table: &Table) -> Sums
+pub fn gas_totals(table: &Table) -> Totals
     requires { ⌜ now table ≡ componentTable ⌝ }
-    ensures { λ r. ⌜ r ≡ sumsOf ⌝ }
+    ensures { λ r. ⌜ r ≡ gasTotals ⌝ }
 {
     let sums = components::sums_of(table, &LINES, &FRACTIONS, 2, 1);
     let m = sums.mass;
-    let s = tables::size(sums.summation);
+    let s = report::size(sums.summation);
     let mut x = 0;
     let mut mass = 0;
     let mut volume = 0;
@@ -118,7 +118,7 @@ pub fn sums_of(table: &Table) -> Sums
         volume += volume_part(table, i);
         i += 1;
     }
-    Sums {
+    Totals {
         h: sums.superior,
         m,
         s,

@@ -46,10 +46,6 @@ values-spec =
     (λ c κs. omega (arith, h-is c, ideal-h))
     (λ c κs. omega (arith, d-is (c .before), ideal-d))
     wobbe-index-requires
-    (λ c κs. search needs)
-    (λ c κs. search needs)
-    (λ c κs. search needs)
-    (λ c κs. search needs)
-    (λ c κs. search needs)
+    (λ c κs. search needs) (λ c κs. search needs) (λ c κs. search needs) (λ c κs. search needs) (λ c κs. search needs)
     (λ c κs. search needs)
     returns)

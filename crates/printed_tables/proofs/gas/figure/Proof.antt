@@ -16,21 +16,16 @@ mul-nearest-2 c =
     let high : c .scale .result ≤ 100000 = omega (arith, c .scale .ensures, row-scale-high _ (c .before .before .before .pre .1)) in
     record { fits = omega (arith, mul-le-mul (product-high _ _ (low-weight (c .before)) (c .before .before .number .ensures)) high) }
 
-returns : tie.Need-returns
-returns c = rw (c .nearest .ensures, c .before .scale .ensures, c .before .before .weight .ensures, c .before .before .before .number .ensures)
-
 pub figure-spec : {M : Type 1} → statement M
 figure-spec =
     tie.close
     (tie.spec
-    (λ c. search needs)
-    (λ c. search needs)
+    (λ c. search needs) (λ c. search needs)
     (λ c κs. (c .pre .0, (omega arith, omega (arith, column-in (c .args .k % 6) (omega arith)))))
     (λ c κs. search needs)
     (λ c. product-fits _ _ (low-weight c) (c .before .number .ensures))
     (λ c κs. search needs)
     mul-nearest-2
-    (λ c. search needs)
-    (λ c. search needs)
+    (λ c. search needs) (λ c. search needs)
     (λ c κs. unit-above (c .before .before .before .args .k % 6) (omega arith))
-    returns)
+    (λ c. rw (c .nearest .ensures, c .before .scale .ensures, c .before .before .weight .ensures, c .before .before .before .number .ensures)))

@@ -9,7 +9,6 @@ pub fraction-spec : {M : Type 1} → statement M
 fraction-spec =
     tie.close
     (tie.spec
-    (λ c. search needs)
-    (λ c. search needs)
+    (λ c. search needs) (λ c. search needs)
     (λ c. record { fits = omega (arith, fraction-high _ (c .pre)) })
     (λ c. search needs))

@@ -28,9 +28,7 @@ pub mass-part-spec : {M : Type 1} → statement M
 mass-part-spec =
     tie.close
     (tie.spec
-    (λ c κs. search needs)
-    (λ c κs. search needs)
-    (λ c κs. search needs)
+    (λ c κs. search needs) (λ c κs. search needs) (λ c κs. search needs)
     (λ c. record { fits = omega (arith, product c) })
     (λ c. record { fits = omega (arith, product c) })
     (λ c κs. omega (arith, c .before .before .before .pre .1 .1, m-value))

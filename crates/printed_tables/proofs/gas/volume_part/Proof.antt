@@ -15,18 +15,13 @@ part-is : (c : tie.After-ideal-calorific-value)
 unfolding volumePart D T
 part-is c = cc
 
-ideal-calorific-value-requires : tie.Need-ideal-calorific-value-requires
-ideal-calorific-value-requires c κs =
-    (omega (arith, product-high _ _ {x = 1000000} (omega arith) (c .before .before .number .ensures)), omega (arith, c .divisor .ensures))
-
 pub volume-part-spec : {M : Type 1} → statement M
 volume-part-spec =
     tie.close
     (tie.spec
-    (λ c κs. search needs)
-    (λ c κs. search needs)
+    (λ c κs. search needs) (λ c κs. search needs)
     (λ c. product-fits _ _ (omega arith) (c .before .number .ensures))
     (λ c κs. search needs)
-    ideal-calorific-value-requires
+    (λ c κs. (omega (arith, product-high _ _ {x = 1000000} (omega arith) (c .before .before .number .ensures)), omega (arith, c .divisor .ensures)))
     (λ c. record { fits = omega (arith, part-is c, volume-part-high _ (c .before .before .before .before .pre .1)) })
     part-is)

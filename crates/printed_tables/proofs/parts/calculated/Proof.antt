@@ -21,11 +21,9 @@ pub calculated-spec : {M : Type 1} → statement M
 calculated-spec =
     tie.close
     (tie.spec
-    (λ c. search needs)
-    (λ c. search needs)
+    (λ c. search needs) (λ c. search needs)
     per-kilogram-requires
-    (λ c. search needs)
-    (λ c. search needs)
+    (λ c. search needs) (λ c. search needs)
     per-cubic-metre-requires
     (λ c. search needs)
     (λ c κs. (c .before .before .pre .0, rw (c .enum-told3 .given .1) at (c .before .before .pre .1)))

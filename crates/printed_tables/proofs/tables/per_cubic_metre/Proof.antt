@@ -7,7 +7,7 @@ use lib.ListN.{getD}
 use Rattle.rounding.proofs.NearLaws as near
 use Rattle.properties.proofs.StepBounds.{temperature-low, calorific-near}
 use Rattle.printed_tables.specs.Figures.{superiors, meterings}
-use Rattle.printed_tables.proofs.NumberLaws.{at-most, product-high, product-fits, scale-high}
+use Rattle.printed_tables.proofs.NumberLaws.{at-most, product-high, product-fits}
 use Rattle.printed_tables.proofs.tables.per_cubic_metre.Statement.{statement}
 use Rattle.printed_tables.proofs.tables.per_cubic_metre.Tie as tie
 
@@ -27,30 +27,17 @@ value-high c =
     let close = calorific-near (1000000 * c .before .before .number .result) (c .before .divisor .result) (omega arith) in
     omega (arith, c .ideal-calorific-value .ensures, near.at-most {b = 500000000} close (omega (arith, heat-high (c .before))))
 
-number-requires : tie.Need-number-requires
-number-requires c κs = (c .pre .0, (c .pre .1 .0, c .pre .1 .1, omega (arith, superior-high (c .args .column / 2) (omega arith))))
-
-mul-nearest : tie.Need-mul-nearest
-mul-nearest c =
-    let high : c .scale .result ≤ 1000 = omega (arith, c .scale .ensures, scale-high 5 (c .before .before .before .before .args .line)) in
-    record { fits = omega (arith, mul-le-mul (value-high (c .before)) high) }
-
-returns : tie.Need-returns
-returns c = rw (c .nearest .ensures, c .before .scale .ensures, c .before .before .ideal-calorific-value .ensures, c .before .before .before .divisor .ensures, c .before .before .before .before .number .ensures)
-
 pub per-cubic-metre-spec : {M : Type 1} → statement M
 per-cubic-metre-spec =
     tie.close
     (tie.spec
-    (λ c. search needs)
-    (λ c. search needs)
+    (λ c. search needs) (λ c. search needs)
     (λ c. record { fits = omega (arith, superior-high (c .args .column / 2) (omega arith)) })
-    number-requires
-    (λ c. search needs)
-    (λ c κs. search needs)
+    (λ c κs. (c .pre .0, (c .pre .1 .0, c .pre .1 .1, omega (arith, superior-high (c .args .column / 2) (omega arith)))))
+    (λ c. search needs) (λ c κs. search needs)
     (λ c. product-fits _ _ (omega arith) (c .before .number .ensures))
     (λ c κs. (omega (arith, heat-high c), omega (arith, divisor-low c)))
     (λ c κs. search needs)
-    mul-nearest
+    (λ c. record { fits = omega (arith, mul-le-mul (value-high (c .before)) (c .scale .ensures .1)) })
     (λ c κs. search needs)
-    returns)
+    (λ c. cc))

@@ -11,8 +11,8 @@ use Rattle.rounding.proofs.SignedWords.{fits64}
 use Rattle.properties.specs.Chain.{HmSuperior, M, S}
 use Rattle.printed_tables.specs.Gas.{gas, fractionAt, massPart, volumePart, sumTo}
 use Rattle.printed_tables.proofs.GasLaws.{composition, h-is, m-is, s-is, s-value, fraction-at-most, mass-part-high, volume-part-high, sum-step, sum-high}
-use Rattle.printed_tables.proofs.gas.sums_of.Statement.{statement}
-use Rattle.printed_tables.proofs.gas.sums_of.Tie as tie
+use Rattle.printed_tables.proofs.gas.gas_totals.Statement.{statement}
+use Rattle.printed_tables.proofs.gas.gas_totals.Tie as tie
 
 abbrev Inv-loop : tie.InvT-loop
 Inv-loop table sums m s x₀ mass₀ volume₀ i₀ x mass volume i =
@@ -57,14 +57,11 @@ returns c = let e : c .before .loop .i ≡ 8 = omega arith in
     let b = c .before .before .before .before in
     rw (h-sum b, m-sum b, c .before .before .size .ensures, s-read b, inv .1, inv .2, inv .3, e)
 
-pub sums-of-spec : {M : Type 1} → statement M
-sums-of-spec =
+pub gas-totals-spec : {M : Type 1} → statement M
+gas-totals-spec =
     tie.close
     (tie.spec
-    Inv-loop
-    μ-loop
-    (λ c. search needs)
-    (λ c. search needs)
+    Inv-loop μ-loop (λ c. search needs) (λ c. search needs)
     (λ c κs. (c .before .before .pre, (composition, (omega arith, omega arith))))
     (λ c κs. omega (arith, ap natAbs (s-read (c .before)), s-value))
     loop-holds
@@ -74,7 +71,6 @@ sums-of-spec =
     add-mass
     (λ c κs. (c .before .before .before .before .before .before .before .before .before .pre, c .before .before .loop-test .taken))
     add-volume
-    (λ c. search needs)
-    (λ c. search needs)
+    (λ c. search needs) (λ c. search needs)
     loop-again
     returns)
