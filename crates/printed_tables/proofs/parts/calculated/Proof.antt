@@ -1,30 +1,17 @@
 -- Each arm is one case of `figureAt`.
-use Prim.Native.Nat.{_<_}
 use native.Mathlib.Omega.{arith}
 use borrow.Author.Needs.{needs}
 use Rattle.printed_tables.proofs.parts.calculated.Statement.{statement}
 use Rattle.printed_tables.proofs.parts.calculated.Tie as tie
-
-per-kilogram-requires : tie.Need-per-kilogram-requires
-per-kilogram-requires c κs =
-    let s = c .before .before in
-    let h : s .args .k < 384 = rw (c .enum-told .given .1) at (s .pre .1) in
-    (s .pre .0, (omega arith, omega arith, omega arith))
-
-per-cubic-metre-requires : tie.Need-per-cubic-metre-requires
-per-cubic-metre-requires c κs =
-    let s = c .before .before in
-    let h : s .args .k < 576 = rw (c .enum-told2 .given .1) at (s .pre .1) in
-    (s .pre .0, (omega arith, omega arith, omega arith))
 
 pub calculated-spec : {M : Type 1} → statement M
 calculated-spec =
     tie.close
     (tie.spec
     (λ c. search needs) (λ c. search needs)
-    per-kilogram-requires
+    (λ c κs. let p = c .before .before .pre in let h = rw (c .enum-told .given .1) at (p .1) in (p .0, (omega arith, omega arith, omega arith)))
     (λ c. search needs) (λ c. search needs)
-    per-cubic-metre-requires
+    (λ c κs. let p = c .before .before .pre in let h = rw (c .enum-told2 .given .1) at (p .1) in (p .0, (omega arith, omega arith, omega arith)))
     (λ c. search needs)
     (λ c κs. (c .before .before .pre .0, rw (c .enum-told3 .given .1) at (c .before .before .pre .1)))
     (λ c. search needs)
