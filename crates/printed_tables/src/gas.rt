@@ -111,12 +111,10 @@ pub fn gas_totals(table: &Table) -> Totals
     let mut x = 0;
     let mut mass = 0;
     let mut volume = 0;
-    let mut i = 0;
-    while i < 8 {
+    for i in 0..8 {
         x += fraction(i);
         mass += mass_part(table, i, m);
         volume += volume_part(table, i);
-        i += 1;
     }
     Totals {
         h: sums.superior,

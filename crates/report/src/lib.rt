@@ -23,6 +23,11 @@ pub fn print_spaced(n: u64) -> bool {
     print_text(b" ") && print_number(n)
 }
 
+// A number, and the words after it.
+pub fn print_amount(n: u64, words: &[u8]) -> bool {
+    print_number(n) && print_text(words)
+}
+
 // A number without its sign.
 pub fn size(n: i64) -> u64
     requires { ⌜ natAbs n < 2 ^ 63 ⌝ }

@@ -11,10 +11,7 @@ ghost use Rattle.time_meter.specs.Calls.{temperatureOf, methaneAt, analy
 fn temperature(stream: usize) -> u8
     ensures { λ r. ⌜ r ≡ temperatureOf stream ⌝ }
 {
-    if stream % 2 == 0 {
-        return 15;
-    }
-    0
+    (15 * (1 - stream % 2)) as u8
 }
 
 // The record of methane alone at t/t.
@@ -30,12 +27,10 @@ fn analysed(m: Meter) -> Meter
     ensures { λ r. ⌜ (r ≡ analysedTo 16 m) × Sound r ⌝ }
 {
     let mut after = m;
-    let mut stream: usize = 0;
-    while stream < 16 {
+    for stream in 0..16 {
         let bytes = methane(temperature(stream));
         let changed = meter::analysis(after, stream, &bytes);
         after = changed.meter;
-        stream += 1;
     }
     after
 }
@@ -46,11 +41,9 @@ fn metered(m: Meter) -> Meter
     ensures { λ r. ⌜ (r ≡ meteredTo 10000000 m) × Sound r ⌝ }
 {
     let mut after = m;
-    let mut i: u64 = 0;
-    while i < 10000000 {
+    for i in 0..10000000 {
         let changed = meter::metering(after, (i % 16) as usize, i % 1000);
         after = changed.meter;
-        i += 1;
     }
     after
 }

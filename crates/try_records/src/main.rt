@@ -8,25 +8,17 @@
 ghost use mathlib.Core.Path.{_≡_};
 ghost use Prim.Native.Nat.{_≤_};
 ghost use lib.ListN.{length};
-ghost use Rattle.try_records.specs.Untouched.{oneIf170, untouchedIn};
+ghost use Rattle.try_records.specs.Untouched.{untouchedIn};
 use libc::STDIN_FILENO;
 use report_answers::print_verdict;
 
-fn one_if_170(byte: u8) -> u64
-    ensures { λ r. ⌜ (r ≡ oneIf170 byte) × (r ≤ 1) ⌝ }
-{
-    if byte == 170 {
-        return 1;
-    }
-    0
-}
-
+// How many bytes of a buffer hold 170.
 fn untouched(out: &[u8]) -> u64
     ensures { λ r. ⌜ r ≡ untouchedIn (length (now (out .entry))) (now (out .entry)) ⌝ }
 {
     let mut count: u64 = 0;
     for k in 0..out.len() {
-        count += one_if_170(out[k]);
+        count += (out[k] == 170) as u64;
     }
     count
 }
