@@ -48,7 +48,7 @@ fn metered(m: Meter) -> Meter
     after
 }
 
-// The line of a stream. No reading of one that has taken volume is refused.
+// The line of a stream; none where a reading of it is refused.
 fn print_stream(m: Meter, stream: usize)
     requires { ⌜ Sound m ⌝ }
 {
