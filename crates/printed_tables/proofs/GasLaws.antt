@@ -7,7 +7,7 @@ use lib.ListN.{getD}
 use mir.Syntax.{w64}
 use mir.Val.{Fits}
 use Rattle.rounding.specs.Near.{near}
-use Rattle.components.specs.Table.{componentTable}
+use Rattle.components.specs.Table.{componentTable, molarMass}
 use Rattle.components.specs.Composition.{Composition, total, overLines, fractionFor}
 use Rattle.properties.specs.Chain.{HmSuperior, M, S, D, T}
 use Rattle.printed_tables.specs.Figures.{numberOf}
@@ -47,7 +47,11 @@ pub ideal-d : idealD ≡ 60346259
 unfolding idealD M overLines fractionFor componentTable near
 ideal-d = refl
 
--- no part passes 10^14
+-- a line's mass and its parts of the formulas: no part passes 10^14
+pub mass-high : (k : ℕ) → k < 8 → fractionAt k * numberOf (lineAt k) molarMass ≤ 150000000000
+unfolding componentTable
+mass-high = at-most (λ (k : ℕ). fractionAt k * numberOf (lineAt k) molarMass) 150000000000 8 tt
+
 pub mass-part-high : (k : ℕ) → k < 8 → massPart k ≤ 100000000000000
 unfolding massPart M overLines fractionFor componentTable near
 mass-part-high = at-most massPart 100000000000000 8 tt

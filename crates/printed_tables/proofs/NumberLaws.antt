@@ -1,4 +1,4 @@
--- Bounds that compute, and bounds of a line's numbers and of the scales.
+-- Bounds that compute, and bounds of a line's numbers.
 use mathlib.Core.Path.{_≡_}
 use mathlib.Core.List.{[]}
 use Prim.Native.Nat.{ℕ, _*_, _-_, _≤_, _<_}

@@ -4,6 +4,7 @@ use lib.IntN.{natAbs}
 use lib.ListN.{getD}
 use Rattle.rounding.specs.Near.{near}
 use Rattle.components.specs.Table.{molarMass, superior}
+use Rattle.components.specs.Composition.{total}
 use Rattle.records.specs.Format.{Contents}
 use Rattle.records.specs.Cases.{annexD}
 use Rattle.properties.specs.Chain.{HmSuperior, M, S, D, idealCalorific}
@@ -42,7 +43,7 @@ gasTotals =
       h = HmSuperior gas;
       m = M gas;
       s = natAbs (S gas);
-      x = sumTo 8 fractionAt;
+      x = total (gas .fractions);
       mass = sumTo 8 massPart;
       volume = sumTo 8 volumePart;
     }

@@ -10,7 +10,7 @@ use mir.Val.{toZ, ofZ}
 use mir.Facts.{toZ-ofZ}
 use Rattle.rounding.proofs.SignedWords.{fits64}
 use Rattle.components.specs.Table.{componentTable}
-use Rattle.components.specs.Composition.{sumOf, overLines, fractionFor}
+use Rattle.components.specs.Composition.{total, sumOf, overLines, fractionFor}
 use Rattle.properties.specs.Chain.{HmSuperior, M, S}
 use Rattle.printed_tables.specs.Gas.{gas, fractionAt, massPart, volumePart, sumTo}
 use Rattle.printed_tables.proofs.GasLaws.{composition, s-value, fraction-high, mass-part-high, volume-part-high, more-fits}
@@ -49,6 +49,7 @@ unfolding sumTo
 loop-again c = (omega arith, rw add-one (cc), rw add-one (cc), rw add-one (cc))
 
 returns : tie.Need-returns Inv-loop μ-loop
+unfolding sumTo total
 returns c = let e : c .before .loop .i ≡ 8 = omega arith in
     let inv = c .before .loop .inv in
     let b = c .before .before .before .before in

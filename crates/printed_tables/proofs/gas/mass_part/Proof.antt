@@ -1,21 +1,16 @@
 -- The products fit 64 bits, and no divisor is 0.
 use mathlib.Core.Path.{_≡_}
 use Prim.Native.Nat.{_*_, _≤_}
-use native.Mathlib.Nat.{mul-le-mul}
 use native.Mathlib.Omega.{arith}
 use borrow.Author.Needs.{needs}
-use Rattle.components.proofs.Entries.{mass-below}
-use Rattle.printed_tables.specs.Gas.{lineAt, massPart}
+use Rattle.printed_tables.specs.Gas.{massPart}
 use Rattle.printed_tables.proofs.NumberLaws.{mass-above, product-fits}
-use Rattle.printed_tables.proofs.GasLaws.{line-in, fraction-high, m-value, mass-part-high}
+use Rattle.printed_tables.proofs.GasLaws.{line-in, mass-high, m-value, mass-part-high}
 use Rattle.printed_tables.proofs.gas.mass_part.Statement.{statement}
 use Rattle.printed_tables.proofs.gas.mass_part.Tie as tie
 
-product : (c : tie.After-fraction) → c .fraction .result * c .before .before .number .result ≤ 1000000 * 1422850
-product c =
-    let s = c .before .before .before in
-    let high : c .fraction .result ≤ 1000000 = omega (arith, c .fraction .ensures, fraction-high _ (s .pre .1 .0)) in
-    mul-le-mul {m₂ = 1422850} high (omega (arith, c .before .before .number .ensures, mass-below (lineAt (s .args .i))))
+product : (c : tie.After-fraction) → c .fraction .result * c .before .before .number .result ≤ 150000000000
+product c = rw (c .fraction .ensures, c .before .before .number .ensures) (mass-high _ (c .before .before .before .pre .1 .0))
 
 some-mass : (c : tie.After-number) → 1 ≤ c .number .result
 some-mass c = let l = line-in _ (c .before .pre .1 .0) in omega (arith, c .number .ensures, mass-above _ (l .0) (l .1))
