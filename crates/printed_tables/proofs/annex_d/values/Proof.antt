@@ -17,12 +17,6 @@ module _ (c : tie.After-ideal-density) where
   unfolding idealD
   d-is = cc
 
-wobbe-index-requires : tie.Need-wobbe-index-requires
-wobbe-index-requires c κs =
-    let h = h-is (c .before .before) in
-    let d = d-is (c .before .before) in
-    (omega (arith, ideal-h), omega (arith, ideal-d), omega (arith, ideal-d))
-
 returns : tie.Need-returns
 unfolding idealHm idealRho idealW D T
 returns c =
@@ -43,7 +37,7 @@ values-spec =
     (λ c κs. rw (c .before .before .before .before .before .pre) (omega (arith, m-value), omega (arith, c .before .before .before .before .divisor .ensures)))
     (λ c κs. omega (arith, h-is c, ideal-h))
     (λ c κs. omega (arith, d-is (c .before), ideal-d))
-    wobbe-index-requires
+    (λ c κs. let h = h-is (c .before .before) in let d = d-is (c .before .before) in (omega (arith, ideal-h), omega (arith, ideal-d), omega (arith, ideal-d)))
     (λ c κs. search needs) (λ c κs. search needs) (λ c κs. search needs) (λ c κs. search needs) (λ c κs. search needs)
     (λ c κs. search needs)
     returns)

@@ -11,7 +11,7 @@ figure-spec =
     tie.close
     (tie.spec
     (λ c. search needs) (λ c. search needs)
-    (λ c κs. (c .pre .0, (omega arith, omega (arith, column-in (c .args .k % 6) (omega arith)))))
+    (λ c κs. let h = column-in (c .args .k % 6) (omega arith) in search needs)
     (λ c κs. search needs)
     (λ c. rw (c .weight .ensures, c .before .number .ensures) (record { fits = omega (arith, product-high _ (c .before .before .pre .1)) }))
     (λ c κs. search needs)

@@ -60,14 +60,14 @@ gas-totals-spec =
     tie.close
     (tie.spec
     Inv-loop μ-loop (λ c. search needs) (λ c. search needs)
-    (λ c κs. (c .before .before .pre, (composition, (omega arith, omega arith))))
+    (λ c κs. let g = composition in search needs)
     (λ c κs. omega (arith, ap natAbs (s-read (c .before)), s-value))
     loop-holds
     (λ c κs. search needs)
     (λ c. let l = c .before in more-fits fractionAt (λ k h. omega (arith, fraction-high k h)) _ (l .loop-test .taken) (l .before .loop .inv .1) (c .fraction .ensures))
-    (λ c κs. (c .before .before .before .before .before .before .before .before .pre, (c .before .loop-test .taken, m-sum (c .before .before .before .before .before))))
+    (λ c κs. let m = m-sum (c .before .before .before .before .before) in search needs)
     (λ c. let l = c .before .before in more-fits massPart mass-part-high _ (l .loop-test .taken) (l .before .loop .inv .2) (c .mass-part .ensures))
-    (λ c κs. (c .before .before .before .before .before .before .before .before .before .pre, c .before .before .loop-test .taken))
+    (λ c κs. search needs)
     (λ c. let l = c .before .before .before in more-fits volumePart volume-part-high _ (l .loop-test .taken) (l .before .loop .inv .3) (c .volume-part .ensures))
     (λ c. search needs) (λ c. search needs)
     loop-again

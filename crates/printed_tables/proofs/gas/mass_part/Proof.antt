@@ -12,9 +12,6 @@ use Rattle.printed_tables.proofs.gas.mass_part.Tie as tie
 product : (c : tie.After-fraction) → c .fraction .result * c .before .before .number .result ≤ 150000000000
 product c = rw (c .fraction .ensures, c .before .before .number .ensures) (mass-high _ (c .before .before .before .pre .1 .0))
 
-some-mass : (c : tie.After-number) → 1 ≤ c .number .result
-some-mass c = let l = line-in _ (c .before .pre .1 .0) in omega (arith, c .number .ensures, mass-above _ (l .0) (l .1))
-
 part-is : (c : tie.After-nearest2) → c .before .nearest .result * c .nearest2 .result ≡ massPart (c .before .before .before .before .before .args .i)
 unfolding massPart
 part-is c = cc
@@ -24,10 +21,10 @@ mass-part-spec =
     tie.close
     (tie.spec
     (λ c κs. search needs) (λ c κs. search needs) (λ c κs. search needs)
-    (λ c. record { fits = omega (arith, product c) })
-    (λ c. record { fits = omega (arith, product c) })
-    (λ c κs. omega (arith, c .before .before .before .pre .1 .1, m-value))
+    (λ c. let h = product c in search needs)
+    (λ c. let h = product c in search needs)
+    (λ c κs. let m = m-value in search needs)
     (λ c. product-fits _ _ (omega arith) (c .before .before .number2 .ensures))
-    (λ c κs. some-mass (c .before .before .before))
+    (λ c κs. let l = line-in (c .before .before .before .before .args .i) (search needs) in let m = mass-above _ (l .0) (l .1) in search needs)
     (λ c. record { fits = omega (arith, part-is c, mass-part-high _ (c .before .before .before .before .before .pre .1 .0)) })
     part-is)

@@ -1,5 +1,4 @@
 -- Each arm is one case of `figureAt`.
-use native.Mathlib.Omega.{arith}
 use borrow.Author.Needs.{needs}
 use Rattle.printed_tables.proofs.parts.calculated.Statement.{statement}
 use Rattle.printed_tables.proofs.parts.calculated.Tie as tie
@@ -9,11 +8,11 @@ calculated-spec =
     tie.close
     (tie.spec
     (λ c. search needs) (λ c. search needs)
-    (λ c κs. let p = c .before .before .pre in let h = rw (c .enum-told .given .1) at (p .1) in (p .0, (omega arith, omega arith, omega arith)))
+    (λ c κs. let h = rw (c .enum-told .given .1) at (c .before .before .pre .1) in search needs)
     (λ c. search needs) (λ c. search needs)
-    (λ c κs. let p = c .before .before .pre in let h = rw (c .enum-told2 .given .1) at (p .1) in (p .0, (omega arith, omega arith, omega arith)))
+    (λ c κs. let h = rw (c .enum-told2 .given .1) at (c .before .before .pre .1) in search needs)
     (λ c. search needs)
-    (λ c κs. (c .before .before .pre .0, rw (c .enum-told3 .given .1) at (c .before .before .pre .1)))
+    (λ c κs. let h = rw (c .enum-told3 .given .1) at (c .before .before .pre .1) in search needs)
     (λ c. search needs)
     (λ c κs. rw (c .enum-told4 .given .1) at (c .before .before .pre .1))
     (λ c. rw (c .before .enum-told .given .1) (c .per-kilogram .ensures))

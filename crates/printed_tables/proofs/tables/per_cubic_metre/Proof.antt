@@ -32,11 +32,11 @@ per-cubic-metre-spec =
     tie.close
     (tie.spec
     (λ c. search needs) (λ c. search needs)
-    (λ c. record { fits = omega (arith, superior-high (c .args .column / 2) (omega arith)) })
-    (λ c κs. (c .pre .0, (c .pre .1 .0, c .pre .1 .1, omega (arith, superior-high (c .args .column / 2) (omega arith)))))
+    (λ c. let h = superior-high (c .args .column / 2) (omega arith) in search needs)
+    (λ c κs. let h = superior-high (c .args .column / 2) (omega arith) in search needs)
     (λ c. search needs) (λ c κs. search needs)
     (λ c. product-fits _ _ (omega arith) (c .before .number .ensures))
-    (λ c κs. (omega (arith, heat-high c), omega (arith, divisor-low c)))
+    (λ c κs. let h = heat-high c in let d = divisor-low c in search needs)
     (λ c κs. search needs)
     (λ c. record { fits = omega (arith, mul-le-mul (value-high (c .before)) (c .scale .ensures .1)) })
     (λ c κs. search needs)

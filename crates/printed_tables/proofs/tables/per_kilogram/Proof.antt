@@ -6,10 +6,6 @@ use Rattle.printed_tables.proofs.NumberLaws.{mass-above, product-high, 
 use Rattle.printed_tables.proofs.tables.per_kilogram.Statement.{statement}
 use Rattle.printed_tables.proofs.tables.per_kilogram.Tie as tie
 
-nearest-requires : tie.Need-nearest-requires
-nearest-requires c κs =
-    let s = c .before .before .before in omega (arith, c .before .number2 .ensures, mass-above _ (s .pre .1 .0) (s .pre .1 .1))
-
 pub per-kilogram-spec : {M : Type 1} → statement M
 per-kilogram-spec =
     tie.close
@@ -18,5 +14,5 @@ per-kilogram-spec =
     (λ c. product-fits _ _ (omega arith) (c .before .number .ensures))
     (λ c κs. search needs)
     (λ c. record { fits = omega (arith, mul-le-mul (product-high _ _ {x = 10} (omega arith) (c .before .before .number .ensures)) (c .scale .ensures .1)) })
-    nearest-requires
+    (λ c κs. let m = mass-above (c .before .before .before .args .line) (search needs) (search needs) in search needs)
     (λ c. cc))
