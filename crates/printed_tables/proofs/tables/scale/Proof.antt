@@ -4,6 +4,4 @@ use Rattle.printed_tables.proofs.tables.scale.Statement.{statement}
 use Rattle.printed_tables.proofs.tables.scale.Tie as tie
 
 pub scale-spec : {M : Type 1} → statement M
-scale-spec = tie.close (tie.spec
-    (λ c. (rw (c .if1 .taken), omega arith))
-    (λ c. (rw (c .if1 .left), omega arith)))
+scale-spec = tie.close (tie.spec (λ c. (rw (c .if1 .taken), omega arith)) (λ c. (rw (c .if1 .left), omega arith)))
