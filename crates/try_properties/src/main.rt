@@ -22,11 +22,11 @@ fn case(title: &[u8], record: &[u8]) {
     match records::rewrite(record, &mut out) {
         Verdict::Accepted => {
             if n <= 300 {
-                report::print_answer(properties::properties_of(&out[..n]));
+                report_answers::print_answer(properties::properties_of(&out[..n]));
             }
         }
         Verdict::Refused(_) => {
-            report::print_answer(properties::properties_of(record));
+            report_answers::print_answer(properties::properties_of(record));
         }
     }
 }
@@ -52,7 +52,7 @@ fn quantity(name: &[u8], scale: u64, bound: u64) {
     report::print_text(name);
     report::print_spaced(scale);
     report::print_spaced(bound);
-    report::print_text(b"\n");
+    report::end_line();
 }
 
 // The scale and the ceiling of each type.
