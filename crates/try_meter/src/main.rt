@@ -2,7 +2,7 @@
 // some where a later condition of the order holds too, the carry from the rest to the whole MJ, two gases on one stream, and a stream
 // that is full.
 //
-// The input is made by `tools/reference.py calls`, whose `CALLS` has the lists. A call is a letter, the lengths of a title and of a
+// rust/examples/expected.rs prints the input, from the lists of rust/tests/calls. A call is a letter, the lengths of a title and of a
 // record (2 bytes each), a stream and a volume in dm³ (8 bytes each, least significant first), the title, and the record. The letter
 // `n` takes a fresh meter, `a` is an analysis, `m` a metering call, `f` fills a stream, and `r` reads one.
 use libc::STDIN_FILENO;

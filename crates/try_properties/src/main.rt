@@ -1,8 +1,8 @@
 // Runs the compiled call on the cases of its input and prints what comes back; then the scale and the ceiling of each quantity.
 //
-// The input, made by `tools/reference.py records`, has the gases of crates/properties/specs/Cases.antt, K1 to K8 of document 01, and
-// heads that are not those of a record. A case is the lengths of a title and of a record (2 bytes each, least significant first), the
-// title, and the record.
+// The input has the gases of crates/properties/specs/Cases.antt, K1 to K8 of document 01, and heads that are not those of a record;
+// rust/examples/expected.rs prints it, from the lists of rust/tests/cases. A case is the lengths of a title and of a record (2 bytes
+// each, least significant first), the title, and the record.
 ghost use Prim.Native.Nat.{_≤_};
 ghost use lib.ListN.{length};
 use libc::STDIN_FILENO;

@@ -3,8 +3,8 @@
 // buffer gives. For bytes: what reading them gives, what reading them and writing them again gives, and how many of the 15 bytes of
 // that buffer still hold 170.
 //
-// The gases are those below. The bytes are those of the input, made by `tools/reference.py read`, each with its length before it
-// (2 bytes, least significant first).
+// The gases are those below. The bytes are those of the input, each with its length before it (2 bytes, least significant first);
+// rust/examples/expected.rs prints the input, from the lists of rust/tests/cases.
 ghost use mathlib.Core.Path.{_≡_};
 ghost use Prim.Native.Nat.{_≤_};
 ghost use lib.ListN.{length};
