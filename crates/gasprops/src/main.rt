@@ -25,10 +25,11 @@ fn read_input(buffer: &mut [u8]) -> Input
                 failed: true,
             };
         }
-        if got == 0 {
+        let more = io::count(got, &buffer[length..]);
+        if more == 0 {
             break;
         }
-        length += got as usize;
+        length += more;
     }
     Input {
         length,
@@ -44,7 +45,7 @@ fn main() {
         os::fail(b"gasprops: standard input");
         return;
     }
-    if !report::print_answer(properties::properties_of(&buffer[..n])) {
+    if !report_answers::print_answer(properties::properties_of(&buffer[..n])) {
         os::fail(b"gasprops: standard output");
     }
 }

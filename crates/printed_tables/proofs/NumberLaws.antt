@@ -1,11 +1,10 @@
--- Bounds that compute, and bounds of a line's numbers and of the scales.
+-- Bounds that compute, and bounds of a line's numbers.
 use mathlib.Core.Path.{_≡_}
-use mathlib.Core.Bool.{Bool, true, false, cond, _&&_, _||_}
 use mathlib.Core.List.{[]}
 use Prim.Native.Nat.{ℕ, _*_, _-_, _≤_, _<_}
 use native.Mathlib.Nat.{mul-le-mul}
 use native.Mathlib.Omega.{arith}
-use lib.Dec.{T, leb, leb→le, eqb}
+use lib.Dec.{T, leb, leb→le}
 use lib.IntN.{pos, natAbs}
 use lib.ListN.{getD}
 use mir.Syntax.{w64}
@@ -13,7 +12,7 @@ use mir.Val.{Fits}
 use Rattle.components.specs.Table.{componentTable, molarMass}
 use Rattle.components.proofs.Every.{every, at}
 use Rattle.components.proofs.Entries.{largest, entry-below}
-use Rattle.printed_tables.specs.Figures.{numberOf, scaleOf}
+use Rattle.printed_tables.specs.Figures.{numberOf}
 
 module _ (f : ℕ → ℕ) (bound n : ℕ) where
   pub at-most : T (every (λ (k : ℕ). leb (f k) bound) n) → (k : ℕ) → k < n → f k ≤ bound
@@ -33,11 +32,3 @@ product-high l c {x} {n} h e = mul-le-mul {m₂ = largest} h (omega (arith, e, e
 
 pub product-fits : (l c : ℕ) {x n : ℕ} → x ≤ 1000000 → n ≡ numberOf l c → Fits w64 (x * n)
 product-fits l c h e = record { fits = omega (arith, product-high l c h e) }
-
--- what two numbers do not pass is not passed by the one chosen
-choice : (b : Bool) {x y bound : ℕ} → x ≤ bound → y ≤ bound → cond b x y ≤ bound
-choice true hx hy = hx
-choice false hx hy = hy
-
-pub scale-high : (t l : ℕ) → scaleOf t l ≤ 1000
-scale-high t l = choice (eqb l 1 || (eqb t 5 && eqb l 41)) {x = 1000} {y = 100} (omega arith) (omega arith)

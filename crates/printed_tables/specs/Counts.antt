@@ -1,9 +1,10 @@
 -- How many figures are equal, one off in the last printed digit, and neither.
-use mathlib.Core.Bool.{Bool, cond}
+use mathlib.Core.Bool.{Bool}
 use mathlib.Core.List.{List}
 use Prim.Native.Nat.{ℕ, zero, suc, _+_, _-_, _%_, _^_}
 use lib.Dec.{eqb, ltb}
 use lib.ListN.{getD}
+use mir.Val.{boolByte}
 use Rattle.printed_tables.specs.declared.parts.Counts.{Counts}
 
 abbrev pub distance : ℕ → ℕ → ℕ
@@ -12,9 +13,9 @@ distance a b = (a - b) + (b - a)
 abbrev pub none : Counts
 none = record { equal = 0; «one_off» = 0; otherwise = 0 }
 
--- one more where a test holds; a count is kept in 32 bits
+-- one more where a test holds (`boolByte` is 1 for true, 0 for false); a count is kept in 32 bits
 abbrev more : ℕ → Bool → ℕ
-more n test = (n + cond test 1 0) % 2 ^ 32
+more n test = (n + boolByte test) % 2 ^ 32
 
 -- the counts with one figure more, as printed and as calculated
 unfoldable pub counted : Counts → ℕ → ℕ → Counts

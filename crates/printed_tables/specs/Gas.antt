@@ -4,6 +4,7 @@ use lib.IntN.{natAbs}
 use lib.ListN.{getD}
 use Rattle.rounding.specs.Near.{near}
 use Rattle.components.specs.Table.{molarMass, superior}
+use Rattle.components.specs.Composition.{total}
 use Rattle.records.specs.Format.{Contents}
 use Rattle.records.specs.Cases.{annexD}
 use Rattle.properties.specs.Chain.{HmSuperior, M, S, D, idealCalorific}
@@ -36,13 +37,13 @@ sumTo zero f = 0
 sumTo (suc n) f = sumTo n f + f n
 
 -- the sums of x H, x M, x s and x, and formulas (7) and (9)
-abbrev pub totalsOf : Totals
-totalsOf =
+abbrev pub gasTotals : Totals
+gasTotals =
     record {
       h = HmSuperior gas;
       m = M gas;
       s = natAbs (S gas);
-      x = sumTo 8 fractionAt;
+      x = total (gas .fractions);
       mass = sumTo 8 massPart;
       volume = sumTo 8 volumePart;
     }

@@ -4,20 +4,20 @@ use Prim.Native.Nat.{ℕ, _*_, _/_, _%_, _^_}
 use lib.ListN.{getD}
 use Rattle.rounding.specs.Near.{near}
 use Rattle.properties.specs.Chain.{D, Six, idealCalorific, idealDensity, idealRelative, rootOf, wobbe}
-use Rattle.printed_tables.specs.Gas.{gas, totalsOf}
+use Rattle.printed_tables.specs.Gas.{gas, gasTotals}
 
 -- the ideal values: H per kilogram, J/kg, and per cubic metre, relative density, with 1 for the compression factor of air, density and W
 unfoldable pub idealHm : ℕ
-idealHm = near (10 ^ 7 * totalsOf .h) (totalsOf .m)
+idealHm = near (10 ^ 7 * gasTotals .h) (gasTotals .m)
 
 unfoldable pub idealH : ℕ
-idealH = idealCalorific (totalsOf .h) (D gas)
+idealH = idealCalorific (gasTotals .h) (D gas)
 
 unfoldable pub idealD : ℕ
-idealD = idealRelative (totalsOf .m) 100000
+idealD = idealRelative (gasTotals .m) 100000
 
 unfoldable pub idealRho : ℕ
-idealRho = idealDensity (totalsOf .m) (D gas)
+idealRho = idealDensity (gasTotals .m) (D gas)
 
 unfoldable pub idealW : ℕ
 idealW = wobbe idealH (rootOf idealD)
@@ -25,8 +25,8 @@ idealW = wobbe idealH (rootOf idealD)
 -- the values, with the six properties of the gas
 abbrev pub textValues : Six → List (List ℕ)
 textValues p =
-    (totalsOf .x ∷ totalsOf .m ∷ totalsOf .h ∷ totalsOf .s ∷ totalsOf .h ∷ idealHm ∷ [])
-    ∷ (idealHm ∷ totalsOf .mass ∷ idealH ∷ idealH ∷ totalsOf .volume ∷ totalsOf .s ∷ [])
+    (gasTotals .x ∷ gasTotals .m ∷ gasTotals .h ∷ gasTotals .s ∷ gasTotals .h ∷ idealHm ∷ [])
+    ∷ (idealHm ∷ gasTotals .mass ∷ idealH ∷ idealH ∷ gasTotals .volume ∷ gasTotals .s ∷ [])
     ∷ (p .Z ∷ p .Z ∷ p .Hs ∷ p .Hs ∷ idealD ∷ idealD ∷ [])
     ∷ (p .d ∷ p .d ∷ idealRho ∷ idealRho ∷ p .rho ∷ p .rho ∷ [])
     ∷ (idealW ∷ idealW ∷ p .W ∷ p .W ∷ p .W ∷ 0 ∷ [])

@@ -2,7 +2,7 @@
 ghost use mathlib.Core.Path.{_≡_};
 ghost use Prim.Native.Nat.{_<_};
 ghost use Rattle.properties.specs.Answers.{numbers};
-ghost use Rattle.printed_tables.specs.Gas.{totalsOf};
+ghost use Rattle.printed_tables.specs.Gas.{gasTotals};
 ghost use Rattle.printed_tables.specs.Text.{textValues, textFigure};
 use super::gas;
 use super::parts;
@@ -53,7 +53,7 @@ pub fn print_name(k: usize) -> bool {
 // The values whose figures are printed, from the sums and the properties of the gas: h_m is the ideal calorific value per kilogram, J/kg,
 // and the ideal relative density has 1 for the compression factor of air.
 fn values(sums: gas::Totals, p: Properties) -> Values
-    requires { ⌜ sums ≡ totalsOf ⌝ }
+    requires { ⌜ sums ≡ gasTotals ⌝ }
     ensures { λ r. ⌜ r ≡ textValues (numbers p) ⌝ }
 {
     let h_m = rounding::nearest(10000000 * sums.h, sums.m);
@@ -85,7 +85,7 @@ pub fn figure(values: &Values, k: usize) -> u64
 
 // All figures, with the properties of the gas's record.
 fn print_counts(p: Properties) {
-    let values = values(gas::totals_of(), p);
+    let values = values(gas::gas_totals(), p);
     let none = parts::Counts::new();
     let rows = parts::count(none, Part::TableD1, &table_d1::FIGURES, &values);
     let counts = parts::count(rows, Part::Text, &text::FIGURES, &values);

@@ -3,7 +3,7 @@ ghost use mathlib.Core.Path.{_≡_};
 ghost use Prim.Native.Nat.{_<_};
 ghost use Rattle.properties.specs.Chain.{HmSuperior, M, S};
 ghost use Rattle.printed_tables.specs.Figures.{numberOf};
-ghost use Rattle.printed_tables.specs.Gas.{gas, lineAt, fractionAt, massPart, volumePart, totalsOf};
+ghost use Rattle.printed_tables.specs.Gas.{gas, lineAt, fractionAt, massPart, volumePart, gasTotals};
 ghost use Rattle.printed_tables.specs.TableD1.{rowWeight, rowScale, rowFigure};
 use super::tables;
 use properties::steps;
@@ -108,21 +108,19 @@ fn sums() -> components::Sums
     sums
 }
 
-pub fn totals_of() -> Totals
-    ensures { λ r. ⌜ r ≡ totalsOf ⌝ }
+pub fn gas_totals() -> Totals
+    ensures { λ r. ⌜ r ≡ gasTotals ⌝ }
 {
     let sums = sums();
     let m = sums.mass;
-    let s = tables::size(sums.summation);
+    let s = report::size(sums.summation);
     let mut x = 0;
     let mut mass = 0;
     let mut volume = 0;
-    let mut i = 0;
-    while i < 8 {
+    for i in 0..8 {
         x += fraction(i);
         mass += mass_part(i, m);
         volume += volume_part(i);
-        i += 1;
     }
     Totals {
         h: sums.superior,

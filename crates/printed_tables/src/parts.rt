@@ -9,8 +9,7 @@ use super::annex_d::Values;
 use super::gas;
 use super::places;
 use super::tables;
-use report::print_number;
-use report::print_text;
+use report::print_amount;
 
 // How many figures are equal, one off in the last printed digit, and neither. A count stays far below 2^32.
 pub struct Counts {
@@ -43,14 +42,13 @@ impl Counts {
     }
 
     pub fn print(self) {
-        print_number(self.equal as u64 + self.one_off as u64 + self.otherwise as u64);
-        print_text(b" figures, ");
-        print_number(self.equal as u64);
-        print_text(b" equal, ");
-        print_number(self.one_off as u64);
-        print_text(b" one off, ");
-        print_number(self.otherwise as u64);
-        print_text(b" otherwise\n");
+        print_amount(
+            self.equal as u64 + self.one_off as u64 + self.otherwise as u64,
+            b" figures, ",
+        );
+        print_amount(self.equal as u64, b" equal, ");
+        print_amount(self.one_off as u64, b" one off, ");
+        print_amount(self.otherwise as u64, b" otherwise\n");
     }
 }
 

@@ -4,6 +4,7 @@ use super::gas;
 use super::parts::Part;
 use super::tables;
 use super::text;
+use report::print_amount;
 use report::print_number;
 use report::print_text;
 
@@ -43,8 +44,7 @@ fn print_cell(number: u8, line: usize, column: usize, conditions: usize) {
 
 fn print_row(line: u8, name: usize) {
     print_text(b"annex D, table D.1, line ");
-    print_number(line as u64);
-    print_text(b", ");
+    print_amount(line as u64, b", ");
     annex_d::print_name(name);
 }
 
@@ -79,7 +79,7 @@ fn print_both(printed: u64, calculated: u64, scale: u64) {
     print_figure(printed, scale);
     print_text(b", calculated ");
     print_figure(calculated, scale);
-    print_text(b"\n");
+    report::end_line();
 }
 
 // Prints the k-th figure of a part where its digits as printed and as calculated differ.

@@ -1,7 +1,6 @@
 // Tables 4 and 5: the ideal calorific value per kilogram and per cubic metre of the lines 1 to 48, superior and inferior by turns.
 ghost use mathlib.Core.Path.{_≡_};
 ghost use Prim.Native.Nat.{_≤_, _<_};
-ghost use lib.IntN.{natAbs};
 ghost use lib.ListN.{length};
 ghost use Rattle.printed_tables.specs.Figures.{numberOf, scaleOf, perKilogram, perCubicMetre};
 ghost use Rattle.printed_tables.specs.Parts.{figuresIn};
@@ -17,22 +16,12 @@ pub const H_25: usize = 4;
 
 pub const H_15: usize = 8;
 
-pub fn size(n: i64) -> u64
-    requires { ⌜ natAbs n ≤ 10000000000 ⌝ }
-    ensures { λ r. ⌜ r ≡ natAbs n ⌝ }
-{
-    if n < 0 {
-        return (-n) as u64;
-    }
-    n as u64
-}
-
 // A number of the component table, without its sign.
 pub fn number(line: usize, column: usize) -> u64
     requires { ⌜ (1 ≤ line) × (line ≤ 55) × (column < 12) ⌝ }
     ensures { λ r. ⌜ r ≡ numberOf line column ⌝ }
 {
-    size(components::entry(line as u8, column) as i64)
+    report::size(components::entry(line as u8, column) as i64)
 }
 
 // The conditions of table 5, 15/15, 0/0, 15/0, 25/0, 20/20 and 25/20: the column of superior h, and the metering temperature, °C.
@@ -42,7 +31,7 @@ const METERING: [u8; 6] = [15, 0, 0, 0, 20, 20];
 
 // Three decimals for methane and, in table 5, hydrogen; two for the other lines.
 pub fn scale(number: u8, line: usize) -> u64
-    ensures { λ r. ⌜ r ≡ scaleOf number line ⌝ }
+    ensures { λ r. ⌜ (r ≡ scaleOf number line) × (r ≤ 1000) ⌝ }
 {
     if (line == 1) | ((number == 5) & (line == 41)) {
         return 1000;

@@ -46,8 +46,8 @@ belowHalf c m = contents c m (1 ∷ 16 ∷ []) (990597 ∷ 9403 ∷ [])
 abbrev everyLine : ℕ → ℕ → Contents
 everyLine c m = contents c m (fullGas .lines) (fullGas .fractions)
 
--- Gases and their properties; with K1, the gas of annex D stands at every permitted pair. The numbers are those of a second
--- implementation of document 01, over a second transcription of the table: `tools/reference.py rows` prints them.
+-- Gases and their properties; with K1, the gas of annex D stands at every permitted pair. The numbers are those of the plain version
+-- of document 01, over a second transcription of the table: `cargo run --example expected -- gases` in rust/ prints the rows.
 abbrev pub gases : List (Contents × Six)
 gases =
     (annexD 0 0, six 997243032 41182289 37098339 78192597 60477389 52955853)

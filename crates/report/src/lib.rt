@@ -1,12 +1,16 @@
-// Prints words, numbers, refusals and answers, as document 01 has its program print them. What is written has no contract: no contract
-// can speak of it. The gate compares it with what document 01 prints. Each function answers whether all of it was written.
+// Prints words and numbers. What is written has no contract: no contract can speak of it. The gate compares it with the file `stdout` of
+// each program. Each function that prints answers whether all of it was written.
+ghost use mathlib.Core.Path.{_≡_};
+ghost use Prim.Native.Nat.{_^_, _<_};
+ghost use lib.IntN.{natAbs};
 use libc::STDOUT_FILENO;
-use properties::Answer;
-use properties::Properties;
-use records::Verdict;
 
 pub fn print_text(words: &[u8]) -> bool {
     io::write_all(STDOUT_FILENO, words)
+}
+
+pub fn end_line() -> bool {
+    print_text(b"\n")
 }
 
 // A number in decimal.
@@ -19,37 +23,33 @@ pub fn print_spaced(n: u64) -> bool {
     print_text(b" ") && print_number(n)
 }
 
-// `refused ` and the number.
-pub fn print_refused(number: u8) -> bool {
-    print_text(b"refused ") && print_number(number as u64)
+// A number, and the words after it.
+pub fn print_amount(n: u64, words: &[u8]) -> bool {
+    print_number(n) && print_text(words)
 }
 
-// `accepted`, or the refusal.
-pub fn print_verdict(verdict: Verdict) -> bool {
-    match verdict {
-        Verdict::Accepted => print_text(b"accepted"),
-        Verdict::Refused(number) => print_refused(number),
+// A number without its sign.
+pub fn size(n: i64) -> u64
+    requires { ⌜ natAbs n < 2 ^ 63 ⌝ }
+    ensures { λ r. ⌜ r ≡ natAbs n ⌝ }
+{
+    if n < 0 {
+        return (-n) as u64;
     }
+    n as u64
 }
 
-// A property's name and a space, its number, and the line's end.
-fn print_line(name: &[u8], number: u64) -> bool {
-    print_text(name) && print_number(number) && print_text(b"\n")
-}
-
-fn print_properties(p: Properties) -> bool {
-    print_line(b"Z ", p.z.value())
-        && print_line(b"Hs ", p.hs.value())
-        && print_line(b"Hi ", p.hi.value())
-        && print_line(b"rho ", p.rho.value())
-        && print_line(b"d ", p.d.value())
-        && print_line(b"W ", p.w.value())
-}
-
-// The six lines of the properties, or the one line of a refusal.
-pub fn print_answer(answer: Answer) -> bool {
-    match answer {
-        Answer::Accepted(p) => print_properties(p),
-        Answer::Refused(number) => print_refused(number) && print_text(b"\n"),
+// A space, and a signed number.
+pub fn print_signed(n: i64) -> bool
+    requires { ⌜ natAbs n < 2 ^ 63 ⌝ }
+{
+    if n < 0 {
+        return print_text(b" -") && print_number(size(n));
     }
+    print_spaced(size(n))
+}
+
+// A line of words and a number.
+pub fn print_line(words: &[u8], n: u64) -> bool {
+    print_text(words) && print_spaced(n) && end_line()
 }

@@ -1,15 +1,13 @@
 -- The calls that the program makes, and the meter after the first n of them.
-use mathlib.Core.Bool.{cond}
 use mathlib.Core.List.{List, [], _∷_}
-use Prim.Native.Nat.{ℕ, zero, suc, _%_}
-use lib.Dec.{eqb}
+use Prim.Native.Nat.{ℕ, zero, suc, _-_, _*_, _%_}
 use Rattle.records.specs.Format.{contents, bytesOf}
 use Rattle.meter.specs.declared.Meter.{Meter}
 use Rattle.meter.specs.Calls.{afterAnalysis, afterMetering}
 
 -- 15 °C for even streams, 0 °C for odd ones
 abbrev pub temperatureOf : ℕ → ℕ
-temperatureOf k = cond (eqb (k % 2) 0) 15 0
+temperatureOf k = 15 * (1 - k % 2)
 
 -- the record of methane alone at t/t
 abbrev pub methaneAt : ℕ → List ℕ

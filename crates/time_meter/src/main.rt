@@ -11,10 +11,7 @@ ghost use Rattle.time_meter.specs.Calls.{temperatureOf, methaneAt, analy
 fn temperature(stream: usize) -> u8
     ensures { λ r. ⌜ r ≡ temperatureOf stream ⌝ }
 {
-    if stream % 2 == 0 {
-        return 15;
-    }
-    0
+    (15 * (1 - stream % 2)) as u8
 }
 
 // The record of methane alone at t/t.
@@ -30,12 +27,10 @@ fn analysed(m: Meter) -> Meter
     ensures { λ r. ⌜ (r ≡ analysedTo 16 m) × Sound r ⌝ }
 {
     let mut after = m;
-    let mut stream: usize = 0;
-    while stream < 16 {
+    for stream in 0..16 {
         let bytes = methane(temperature(stream));
         let changed = meter::analysis(after, stream, &bytes);
         after = changed.meter;
-        stream += 1;
     }
     after
 }
@@ -46,50 +41,30 @@ fn metered(m: Meter) -> Meter
     ensures { λ r. ⌜ (r ≡ meteredTo 10000000 m) × Sound r ⌝ }
 {
     let mut after = m;
-    let mut i: u64 = 0;
-    while i < 10000000 {
+    for i in 0..10000000 {
         let changed = meter::metering(after, (i % 16) as usize, i % 1000);
         after = changed.meter;
-        i += 1;
     }
     after
 }
 
-fn print_refused(number: u8) {
-    report::print_text(b" ");
-    report::print_refused(number);
-}
-
-fn print_totals(m: Meter, stream: usize) {
-    match meter::totals(m, stream) {
-        TotalsAnswer::Accepted(t) => {
-            let energy = t.energy;
-            report::print_spaced(t.volume);
-            report::print_spaced(energy.whole);
-            report::print_spaced(energy.rest);
-        }
-        TotalsAnswer::Refused(number) => print_refused(number),
-    }
-}
-
-fn print_mean(m: Meter, stream: usize)
-    requires { ⌜ Sound m ⌝ }
-{
-    match meter::mean(m, stream) {
-        MeanAnswer::Accepted(h) => {
-            report::print_spaced(h.value());
-        }
-        MeanAnswer::Refused(number) => print_refused(number),
-    }
-}
-
+// The line of a stream; none where a reading of it is refused.
 fn print_stream(m: Meter, stream: usize)
     requires { ⌜ Sound m ⌝ }
 {
+    let TotalsAnswer::Accepted(totals) = meter::totals(m, stream) else {
+        return;
+    };
+    let MeanAnswer::Accepted(mean) = meter::mean(m, stream) else {
+        return;
+    };
+    let energy = totals.energy;
     report::print_number(stream as u64);
-    print_totals(m, stream);
-    print_mean(m, stream);
-    report::print_text(b"\n");
+    report::print_spaced(totals.volume);
+    report::print_spaced(energy.whole);
+    report::print_spaced(energy.rest);
+    report::print_spaced(mean.value());
+    report::end_line();
 }
 
 fn print_streams(m: Meter)

@@ -2,7 +2,7 @@
 // some where a later condition of the order holds too, the carry from the rest to the whole MJ, two gases on one stream, and a stream
 // that is full.
 //
-// The input is made by `tools/reference.py calls`, whose `CALLS` has the lists. A call is a letter, the lengths of a title and of a
+// rust/examples/expected.rs prints the input, from the lists of rust/tests/calls. A call is a letter, the lengths of a title and of a
 // record (2 bytes each), a stream and a volume in dm³ (8 bytes each, least significant first), the title, and the record. The letter
 // `n` takes a fresh meter, `a` is an analysis, `m` a metering call, `f` fills a stream, and `r` reads one.
 use libc::STDIN_FILENO;
@@ -23,11 +23,11 @@ fn print_call(name: &[u8], stream: usize) {
     report::print_spaced(stream as u64);
 }
 
-// The line's end after a call that answers a verdict, or that is refused.
+// The verdict of a call, and the line's end.
 fn print_verdict(verdict: Verdict) {
-    report::print_text(b": ");
-    report::print_verdict(verdict);
-    report::print_text(b"\n");
+    report::print_text(b":");
+    report_answers::print_verdict(verdict);
+    report::end_line();
 }
 
 fn analysis(m: Meter, stream: usize, title: &[u8], bytes: &[u8]) -> Meter
@@ -62,11 +62,9 @@ fn fill(m: Meter, stream: usize) -> Meter
     ensures { λ r. ⌜ (r ≡ filledBy 99999 m stream) × Sound r ⌝ }
 {
     let mut filled = m;
-    let mut i: u64 = 0;
-    while i < 99999 {
+    for i in 0..99999u64 {
         let changed = meter::metering(filled, stream, 10000000);
         filled = changed.meter;
-        i += 1;
     }
     filled
 }
@@ -76,13 +74,10 @@ fn print_totals(m: Meter, stream: usize) {
     match meter::totals(m, stream) {
         TotalsAnswer::Accepted(t) => {
             let energy = t.energy;
-            report::print_text(b":");
-            report::print_spaced(t.volume);
-            report::print_text(b" dm3,");
-            report::print_spaced(energy.whole);
-            report::print_text(b" MJ");
-            report::print_spaced(energy.rest);
-            report::print_text(b" mJ\n");
+            report::print_text(b": ");
+            report::print_amount(t.volume, b" dm3, ");
+            report::print_amount(energy.whole, b" MJ ");
+            report::print_amount(energy.rest, b" mJ\n");
         }
         TotalsAnswer::Refused(n) => print_verdict(Verdict::Refused(n)),
     }
@@ -94,9 +89,8 @@ fn print_mean(m: Meter, stream: usize)
     print_call(b"mean", stream);
     match meter::mean(m, stream) {
         MeanAnswer::Accepted(h) => {
-            report::print_text(b":");
-            report::print_spaced(h.value());
-            report::print_text(b" J/m3\n");
+            report::print_text(b": ");
+            report::print_amount(h.value(), b" J/m3\n");
         }
         MeanAnswer::Refused(n) => print_verdict(Verdict::Refused(n)),
     }

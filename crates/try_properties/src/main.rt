@@ -1,8 +1,8 @@
 // Runs the compiled call on the cases of its input and prints what comes back; then the scale and the ceiling of each quantity.
 //
-// The input, made by `tools/reference.py records`, has the gases of crates/properties/specs/Cases.antt, K1 to K8 of document 01, and
-// heads that are not those of a record. A case is the lengths of a title and of a record (2 bytes each, least significant first), the
-// title, and the record.
+// The input has the gases of crates/properties/specs/Cases.antt, K1 to K8 of document 01, and heads that are not those of a record;
+// rust/examples/expected.rs prints it, from the lists of rust/tests/cases. A case is the lengths of a title and of a record (2 bytes
+// each, least significant first), the title, and the record.
 ghost use Prim.Native.Nat.{_≤_};
 ghost use lib.ListN.{length};
 use libc::STDIN_FILENO;
@@ -22,11 +22,11 @@ fn case(title: &[u8], record: &[u8]) {
     match records::rewrite(record, &mut out) {
         Verdict::Accepted => {
             if n <= 300 {
-                report::print_answer(properties::properties_of(&out[..n]));
+                report_answers::print_answer(properties::properties_of(&out[..n]));
             }
         }
         Verdict::Refused(_) => {
-            report::print_answer(properties::properties_of(record));
+            report_answers::print_answer(properties::properties_of(record));
         }
     }
 }
@@ -52,7 +52,7 @@ fn quantity(name: &[u8], scale: u64, bound: u64) {
     report::print_text(name);
     report::print_spaced(scale);
     report::print_spaced(bound);
-    report::print_text(b"\n");
+    report::end_line();
 }
 
 // The scale and the ceiling of each type.

@@ -3,36 +3,22 @@
 // buffer gives. For bytes: what reading them gives, what reading them and writing them again gives, and how many of the 15 bytes of
 // that buffer still hold 170.
 //
-// The gases are those below. The bytes are those of the input, made by `tools/reference.py read`, each with its length before it
-// (2 bytes, least significant first).
+// The gases are those below. The bytes are those of the input, each with its length before it (2 bytes, least significant first);
+// rust/examples/expected.rs prints the input, from the lists of rust/tests/cases.
 ghost use mathlib.Core.Path.{_≡_};
 ghost use Prim.Native.Nat.{_≤_};
 ghost use lib.ListN.{length};
-ghost use Rattle.try_records.specs.Untouched.{oneIf170, untouchedIn};
+ghost use Rattle.try_records.specs.Untouched.{untouchedIn};
 use libc::STDIN_FILENO;
-use records::Verdict;
+use report_answers::print_verdict;
 
-// A space, and the verdict.
-fn print_verdict(verdict: Verdict) {
-    report::print_text(b" ");
-    report::print_verdict(verdict);
-}
-
-fn one_if_170(byte: u8) -> u64
-    ensures { λ r. ⌜ (r ≡ oneIf170 byte) × (r ≤ 1) ⌝ }
-{
-    if byte == 170 {
-        return 1;
-    }
-    0
-}
-
+// How many bytes of a buffer hold 170.
 fn untouched(out: &[u8]) -> u64
-    ensures { λ r. ⌜ r ≡ untouchedIn (now (out .entry)) ⌝ }
+    ensures { λ r. ⌜ r ≡ untouchedIn (length (now (out .entry))) (now (out .entry)) ⌝ }
 {
     let mut count: u64 = 0;
     for k in 0..out.len() {
-        count += one_if_170(out[k]);
+        count += (out[k] == 170) as u64;
     }
     count
 }
@@ -70,7 +56,7 @@ fn gas(combustion: u8, metering: u8, lines: &[u8], fractions: &[u32]) {
         report::print_text(b" read:");
         print_reading(&out[..8 + 5 * n]);
     }
-    report::print_text(b"\n");
+    report::end_line();
 }
 
 // Methane alone, and methane with another line, at 15/15.
@@ -131,7 +117,7 @@ fn short() {
         &mut out,
     ));
     report::print_spaced(untouched(&out));
-    report::print_text(b"\n");
+    report::end_line();
 }
 
 fn bytes(bytes: &[u8]) {
@@ -141,7 +127,7 @@ fn bytes(bytes: &[u8]) {
     report::print_text(b" rewrite:");
     print_verdict(records::rewrite(bytes, &mut out));
     report::print_spaced(untouched(&out));
-    report::print_text(b"\n");
+    report::end_line();
 }
 
 // All bytes of the input, up to those that it does not hold whole.

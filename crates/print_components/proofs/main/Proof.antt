@@ -1,25 +1,13 @@
 -- Each line is one of the table.
 use Prim.Native.Nat.{_≤_, _-_}
-use native.Mathlib.Omega.{arith}
 use borrow.Author.Needs.{needs}
 use Rattle.print_components.proofs.main.Statement.{statement}
 use Rattle.print_components.proofs.main.Tie as tie
-
-abbrev Inv-loop : tie.InvT-loop
-Inv-loop line₀ line = (1 ≤ line) × (line ≤ 56)
-
-abbrev μ-loop : tie.MeasureT-loop
-μ-loop line₀ line = 56 - line
 
 pub main-spec : {M : Type 1} → statement M
 main-spec =
     tie.close
     (tie.spec
-    Inv-loop
-    μ-loop
-    (λ c. search needs)
-    (λ c κs. (omega arith, omega arith))
-    (λ c. search needs)
-    (λ c. search needs)
-    (λ c. search needs)
-    (λ c. search needs))
+    (λ line₀ line. (1 ≤ line) × (line ≤ 56))
+    (λ line₀ line. 56 - line)
+    (λ c. search needs) (λ c κs. search needs) (λ c. search needs) (λ c. search needs) (λ c. search needs) (λ c. search needs))

@@ -4,51 +4,39 @@ use native.Mathlib.Omega.{arith}
 use borrow.Author.Needs.{needs}
 use Rattle.properties.specs.Chain.{D, T}
 use Rattle.printed_tables.specs.Text.{idealHm, idealH, idealD, idealRho, idealW}
-use Rattle.printed_tables.proofs.GasLaws.{h-sum, m-sum, ideal-h, ideal-d}
+use Rattle.printed_tables.proofs.GasLaws.{h-value, m-value, ideal-h, ideal-d}
 use Rattle.printed_tables.proofs.annex_d.values.Statement.{statement}
 use Rattle.printed_tables.proofs.annex_d.values.Tie as tie
 
 module _ (c : tie.After-ideal-density) where
-  abbrev start : tie.Start
-  start = c .before .before .before .before .before
-
   h-is : c .before .before .ideal-calorific-value .result ≡ idealH
   unfolding idealH D T
-  h-is = rw (c .before .before .ideal-calorific-value .ensures, start .pre)
+  h-is = cc
 
   d-is : c .before .ideal-relative-density .result ≡ idealD
   unfolding idealD
-  d-is = rw (c .before .ideal-relative-density .ensures, start .pre)
-
-wobbe-index-requires : tie.Need-wobbe-index-requires
-wobbe-index-requires c κs =
-    let h = h-is (c .before .before) in
-    let d = d-is (c .before .before) in
-    (omega (arith, ideal-h, c .before .new .ensures), omega (arith, ideal-d, c .new2 .ensures), omega (arith, ideal-d, c .new2 .ensures))
+  d-is = cc
 
 returns : tie.Need-returns
 unfolding idealHm idealRho idealW D T
 returns c =
     let v = c .before .before .before .before .before in
     let b = v .before .before .before .before in
-    rw (c .value6 .ensures, c .before .value5 .ensures, c .before .before .value4 .ensures, c .before .before .before .value3 .ensures, c .before .before .before .before .value2 .ensures, v .value .ensures, v .before .wobbe-index .ensures, v .before .before .new2 .ensures, v .before .before .before .new .ensures, h-is b, d-is b, b .ideal-density .ensures, b .before .before .before .nearest .ensures, start b .pre)
+    let n = b .before .before .before in
+    rw (c .value6 .ensures, c .before .value5 .ensures, c .before .before .value4 .ensures, c .before .before .before .value3 .ensures, c .before .before .before .before .value2 .ensures, v .value .ensures, v .before .wobbe-index .ensures, v .before .before .new2 .ensures, v .before .before .before .new .ensures, h-is b, d-is b, b .ideal-density .ensures, n .nearest .ensures, n .before .before .pre)
 
 pub values-spec : {M : Type 1} → statement M
 values-spec =
     tie.close
     (tie.spec
-    (λ c. record { fits = omega (arith, h-sum (c .before .pre)) })
-    (λ c κs. omega (arith, m-sum (c .before .pre)))
-    (λ c κs. omega (arith, h-sum (c .before .before .pre)))
-    (λ c κs. (omega (arith, m-sum (c .before .before .before .pre)), omega arith))
-    (λ c κs. omega (arith, m-sum (c .before .before .before .before .pre)))
+    (λ c. rw (c .before .pre) (record { fits = omega (arith, h-value) }))
+    (λ c κs. rw (c .before .pre) (omega (arith, m-value)))
+    (λ c κs. rw (c .before .before .pre) (omega (arith, h-value)))
+    (λ c κs. rw (c .before .before .before .pre) (omega (arith, m-value), omega arith))
+    (λ c κs. rw (c .before .before .before .before .pre) (omega (arith, m-value)))
     (λ c κs. omega (arith, h-is c, ideal-h))
     (λ c κs. omega (arith, d-is (c .before), ideal-d))
-    wobbe-index-requires
-    (λ c κs. search needs)
-    (λ c κs. search needs)
-    (λ c κs. search needs)
-    (λ c κs. search needs)
-    (λ c κs. search needs)
+    (λ c κs. let h = h-is (c .before .before) in let d = d-is (c .before .before) in (omega (arith, ideal-h), omega (arith, ideal-d), omega (arith, ideal-d)))
+    (λ c κs. search needs) (λ c κs. search needs) (λ c κs. search needs) (λ c κs. search needs) (λ c κs. search needs)
     (λ c κs. search needs)
     returns)

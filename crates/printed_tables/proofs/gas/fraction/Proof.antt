@@ -1,5 +1,4 @@
 -- A fraction fits 64 bits.
-use native.Mathlib.Omega.{arith}
 use borrow.Author.Needs.{needs}
 use Rattle.printed_tables.proofs.GasLaws.{fraction-high}
 use Rattle.printed_tables.proofs.gas.fraction.Statement.{statement}
@@ -9,7 +8,6 @@ pub fraction-spec : {M : Type 1} → statement M
 fraction-spec =
     tie.close
     (tie.spec
-    (λ c. search needs)
-    (λ c. search needs)
-    (λ c. record { fits = omega (arith, fraction-high _ (c .pre)) })
+    (λ c. search needs) (λ c. search needs)
+    (λ c. let h = fraction-high _ (c .pre) in search needs)
     (λ c. search needs))

@@ -1,24 +1,16 @@
 -- The products fit 64 bits, and no divisor is 0.
 use mathlib.Core.Path.{_≡_}
 use Prim.Native.Nat.{_*_, _≤_}
-use native.Mathlib.Nat.{mul-le-mul}
 use native.Mathlib.Omega.{arith}
 use borrow.Author.Needs.{needs}
-use Rattle.components.proofs.Entries.{heaviest, mass-below}
-use Rattle.printed_tables.specs.Gas.{lineAt, massPart}
+use Rattle.printed_tables.specs.Gas.{massPart}
 use Rattle.printed_tables.proofs.NumberLaws.{mass-above, product-fits}
-use Rattle.printed_tables.proofs.GasLaws.{line-in, fraction-high, m-value, mass-part-high}
+use Rattle.printed_tables.proofs.GasLaws.{line-in, mass-high, m-value, mass-part-high}
 use Rattle.printed_tables.proofs.gas.mass_part.Statement.{statement}
 use Rattle.printed_tables.proofs.gas.mass_part.Tie as tie
 
-product : (c : tie.After-fraction) → c .fraction .result * c .before .before .number .result ≤ 1000000 * heaviest
-product c =
-    let s = c .before .before .before in
-    let high : c .fraction .result ≤ 1000000 = omega (arith, c .fraction .ensures, fraction-high _ (s .pre .0)) in
-    mul-le-mul {m₂ = heaviest} high (omega (arith, c .before .before .number .ensures, mass-below (lineAt (s .args .i))))
-
-some-mass : (c : tie.After-number) → 1 ≤ c .number .result
-some-mass c = let l = line-in _ (c .before .pre .0) in omega (arith, c .number .ensures, mass-above _ (l .0) (l .1))
+product : (c : tie.After-fraction) → c .fraction .result * c .before .before .number .result ≤ 150000000000
+product c = rw (c .fraction .ensures, c .before .before .number .ensures) (mass-high _ (c .before .before .before .pre .0))
 
 part-is : (c : tie.After-nearest2) → c .before .nearest .result * c .nearest2 .result ≡ massPart (c .before .before .before .before .before .args .i)
 unfolding massPart
@@ -28,13 +20,11 @@ pub mass-part-spec : {M : Type 1} → statement M
 mass-part-spec =
     tie.close
     (tie.spec
-    (λ c κs. search needs)
-    (λ c κs. search needs)
-    (λ c κs. search needs)
-    (λ c. record { fits = omega (arith, product c) })
-    (λ c. record { fits = omega (arith, product c) })
-    (λ c κs. omega (arith, c .before .before .before .pre .1, m-value))
+    (λ c κs. search needs) (λ c κs. search needs) (λ c κs. search needs)
+    (λ c. let h = product c in search needs)
+    (λ c. let h = product c in search needs)
+    (λ c κs. let m = m-value in search needs)
     (λ c. product-fits _ _ (omega arith) (c .before .before .number2 .ensures))
-    (λ c κs. some-mass (c .before .before .before))
+    (λ c κs. let l = line-in (c .before .before .before .before .args .i) (search needs) in let m = mass-above _ (l .0) (l .1) in search needs)
     (λ c. record { fits = omega (arith, part-is c, mass-part-high _ (c .before .before .before .before .before .pre .0)) })
     part-is)

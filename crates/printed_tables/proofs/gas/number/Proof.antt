@@ -1,5 +1,4 @@
 -- The lines are those of the component table.
-use native.Mathlib.Omega.{arith}
 use borrow.Author.Needs.{needs}
 use Rattle.printed_tables.proofs.GasLaws.{line-in}
 use Rattle.printed_tables.proofs.gas.number.Statement.{statement}
@@ -10,6 +9,6 @@ number-spec =
     tie.close
     (tie.spec
     (λ c. search needs)
-    (λ c. record { fits = omega (arith, line-in _ (c .pre .0)) })
-    (λ c κs. let l = line-in _ (c .pre .0) in (l .0, l .1, c .pre .1))
+    (λ c. let l = line-in (c .args .i) (search needs) in search needs)
+    (λ c κs. let l = line-in (c .args .i) (search needs) in search needs)
     (λ c. search needs))

@@ -19,8 +19,7 @@ pub volume-part-spec : {M : Type 1} → statement M
 volume-part-spec =
     tie.close
     (tie.spec
-    (λ c κs. search needs)
-    (λ c κs. search needs)
+    (λ c κs. search needs) (λ c κs. search needs)
     (λ c. product-fits _ _ (omega arith) (c .before .number .ensures))
     (λ c κs. omega (arith, product-high _ _ {x = 1000000} (omega arith) (c .before .number .ensures)))
     (λ c. record { fits = omega (arith, part-is c, volume-part-high _ (c .before .before .before .pre)) })

@@ -1,34 +1,18 @@
 -- Each arm is one case of `figureAt`.
-use Prim.Native.Nat.{_<_}
-use native.Mathlib.Omega.{arith}
 use borrow.Author.Needs.{needs}
 use Rattle.printed_tables.proofs.parts.calculated.Statement.{statement}
 use Rattle.printed_tables.proofs.parts.calculated.Tie as tie
-
-per-kilogram-requires : tie.Need-per-kilogram-requires
-per-kilogram-requires c κs =
-    let s = c .before .before in
-    let h : s .args .k < 384 = rw (c .enum-told .given .1) at (s .pre) in
-    (omega arith, omega arith, omega arith)
-
-per-cubic-metre-requires : tie.Need-per-cubic-metre-requires
-per-cubic-metre-requires c κs =
-    let s = c .before .before in
-    let h : s .args .k < 576 = rw (c .enum-told2 .given .1) at (s .pre) in
-    (omega arith, omega arith, omega arith)
 
 pub calculated-spec : {M : Type 1} → statement M
 calculated-spec =
     tie.close
     (tie.spec
+    (λ c. search needs) (λ c. search needs)
+    (λ c κs. let h = rw (c .enum-told .given .1) at (c .before .before .pre) in search needs)
+    (λ c. search needs) (λ c. search needs)
+    (λ c κs. let h = rw (c .enum-told2 .given .1) at (c .before .before .pre) in search needs)
     (λ c. search needs)
-    (λ c. search needs)
-    per-kilogram-requires
-    (λ c. search needs)
-    (λ c. search needs)
-    per-cubic-metre-requires
-    (λ c. search needs)
-    (λ c κs. rw (c .enum-told3 .given .1) at (c .before .before .pre))
+    (λ c κs. let h = rw (c .enum-told3 .given .1) at (c .before .before .pre) in search needs)
     (λ c. search needs)
     (λ c κs. rw (c .enum-told4 .given .1) at (c .before .before .pre))
     (λ c. rw (c .before .enum-told .given .1) (c .per-kilogram .ensures))

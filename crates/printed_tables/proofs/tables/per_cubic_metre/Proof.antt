@@ -9,7 +9,7 @@ use Rattle.components.proofs.Entries.{largest}
 use Rattle.properties.specs.Chain.{divisor, temperature}
 use Rattle.properties.proofs.StepBounds.{divisor-low, calorific-near}
 use Rattle.printed_tables.specs.Figures.{superiors, meterings}
-use Rattle.printed_tables.proofs.NumberLaws.{at-most, product-high, product-fits, scale-high}
+use Rattle.printed_tables.proofs.NumberLaws.{at-most, product-high, product-fits}
 use Rattle.printed_tables.proofs.tables.per_cubic_metre.Statement.{statement}
 use Rattle.printed_tables.proofs.tables.per_cubic_metre.Tie as tie
 
@@ -21,30 +21,22 @@ heat-high c = product-high _ _ {x = 1000000} (omega arith) (c .number .ensures)
 
 value-high : (c : tie.After-ideal-calorific-value) → c .ideal-calorific-value .result ≤ 500000000
 value-high c =
-    let d = divisor-low (getD meterings (c .before .before .args .column / 2) 0) in
-    let close = calorific-near (1000000 * c .before .number .result) (divisor (temperature (getD meterings (c .before .before .args .column / 2) 0))) (omega arith) in
+    let metering = getD meterings (c .before .before .args .column / 2) 0 in
+    let d = divisor-low metering in
+    let close = calorific-near (1000000 * c .before .number .result) (divisor (temperature metering)) (omega arith) in
     omega (arith, c .ideal-calorific-value .ensures, near.at-most {b = 500000000} close (omega (arith, heat-high (c .before))))
-
-mul-nearest : tie.Need-mul-nearest
-mul-nearest c =
-    let high : c .scale .result ≤ 1000 = omega (arith, c .scale .ensures, scale-high 5 (c .before .before .before .args .line)) in
-    record { fits = omega (arith, mul-le-mul (value-high (c .before)) high) }
-
-returns : tie.Need-returns
-returns c = rw (c .nearest .ensures, c .before .scale .ensures, c .before .before .ideal-calorific-value .ensures, c .before .before .before .number .ensures)
 
 pub per-cubic-metre-spec : {M : Type 1} → statement M
 per-cubic-metre-spec =
     tie.close
     (tie.spec
-    (λ c. search needs)
-    (λ c. search needs)
-    (λ c. record { fits = omega (arith, superior-high (c .args .column / 2) (omega arith)) })
-    (λ c κs. (c .pre .0, c .pre .1, omega (arith, superior-high (c .args .column / 2) (omega arith))))
+    (λ c. search needs) (λ c. search needs)
+    (λ c. let h = superior-high (c .args .column / 2) (omega arith) in search needs)
+    (λ c κs. let h = superior-high (c .args .column / 2) (omega arith) in search needs)
     (λ c. product-fits _ _ (omega arith) (c .number .ensures))
     (λ c. search needs)
-    (λ c κs. omega (arith, heat-high c))
+    (λ c κs. let h = heat-high c in search needs)
     (λ c κs. search needs)
-    mul-nearest
+    (λ c. record { fits = omega (arith, mul-le-mul (value-high (c .before)) (c .scale .ensures .1)) })
     (λ c κs. search needs)
-    returns)
+    (λ c. cc))
