@@ -1,2 +1,2 @@
-pub mod NumberLaws
-pub mod GasLaws
+mod NumberLaws
+mod GasLaws

@@ -113,7 +113,7 @@ pub fn gas_totals() -> Totals
 {
     let sums = sums();
     let m = sums.mass;
-    let s = report::size(sums.summation);
+    let s = rounding::size(sums.summation);
     let mut x = 0;
     let mut mass = 0;
     let mut volume = 0;

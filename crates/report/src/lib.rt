@@ -1,6 +1,5 @@
 // Prints words and numbers. What is written has no contract: no contract can speak of it. The gate compares it with the file `stdout` of
 // each program. Each function that prints answers whether all of it was written.
-ghost use mathlib.Core.Path.{_≡_};
 ghost use Prim.Native.Nat.{_^_, _<_};
 ghost use lib.IntN.{natAbs};
 use libc::STDOUT_FILENO;
@@ -28,25 +27,14 @@ pub fn print_amount(n: u64, words: &[u8]) -> bool {
     print_number(n) && print_text(words)
 }
 
-// A number without its sign.
-pub fn size(n: i64) -> u64
-    requires { ⌜ natAbs n < 2 ^ 63 ⌝ }
-    ensures { λ r. ⌜ r ≡ natAbs n ⌝ }
-{
-    if n < 0 {
-        return (-n) as u64;
-    }
-    n as u64
-}
-
 // A space, and a signed number.
 pub fn print_signed(n: i64) -> bool
     requires { ⌜ natAbs n < 2 ^ 63 ⌝ }
 {
     if n < 0 {
-        return print_text(b" -") && print_number(size(n));
+        return print_text(b" -") && print_number(rounding::size(n));
     }
-    print_spaced(size(n))
+    print_spaced(rounding::size(n))
 }
 
 // A line of words and a number.

@@ -1,4 +1,4 @@
-// Rounding to the nearest whole number, halves upward, and the integer square root.
+// Rounding to the nearest whole number, halves upward, the size of a signed number, and the integer square root.
 ghost use mathlib.Core.Path.{_≡_};
 ghost use Prim.Native.Nat.{_^_, _≤_, _<_};
 ghost use lib.IntN.{pos, negℤ, natAbs};
@@ -46,6 +46,17 @@ pub fn nearest_signed(n: i64, q: u64) -> i64
     } else {
         nearest(n as u64, q) as i64
     }
+}
+
+// A number without its sign.
+pub fn size(n: i64) -> u64
+    requires { ⌜ natAbs n < 2 ^ 63 ⌝ }
+    ensures { λ r. ⌜ r ≡ natAbs n ⌝ }
+{
+    if n < 0 {
+        return (-n) as u64;
+    }
+    n as u64
 }
 
 // A root, and the rounds that its search took.

@@ -1,7 +1,7 @@
-pub mod Cases
+mod Cases
 mod Alike
 mod Steps
 mod Volumes
 pub mod Demand
 pub mod Exists
-pub mod Cited
+mod Cited

@@ -1,9 +1,9 @@
 -- The size of a number below 0 is that of its opposite.
 use mathlib.Core.Path.{ap}
 use lib.IntN.{natAbs}
 use Rattle.rounding.proofs.SignedWords.{cast-pos, opposite-fits, opposite-is, value-is}
-use Rattle.report.proofs.size.Statement.{statement}
-use Rattle.report.proofs.size.Tie as tie
+use Rattle.rounding.proofs.size.Statement.{statement}
+use Rattle.rounding.proofs.size.Tie as tie
 
 pub size-spec : {M : Type 1} → statement M
 size-spec =
