@@ -72,7 +72,7 @@ metering-keeps m k w v after gives h =
     let c = clear-metering k w s z in
     let old = h .each k (c .stream) in
     let t = s .totals in
-    record { Hs = old .Hs; totals = record { volume = c .total; energy = sound-booked perMJ (omega arith) calorificBound (t .volume) w _ (t .energy) (old .totals .energy) (mul-le-mul-left w (old .Hs)) } })
+    record { Hs = old .Hs; totals = record { volume = c .total; superior = sound-booked perMJ (omega arith) calorificBound (t .volume) w _ (t .superior) (old .totals .superior) (mul-le-mul-left w (old .Hs)) } })
   where
     s : Stream
     s = streamAt m k
@@ -97,8 +97,8 @@ pub no-mean-above-ceiling : NoMeanAboveCeiling
 no-mean-above-ceiling m k h sound e =
     let s = streamAt m k in
     let t = s .totals in
-    let a = decided-accepted (firstOf (meanOrder k s)) (meanIn (t .energy) (t .volume)) h e in
+    let a = decided-accepted (firstOf (meanOrder k s)) (meanIn (t .superior) (t .volume)) h e in
     let o = unmet (meanOrder k s) tt (a .0) in
     let z = eqb-false (t .volume) 0 (o 18) in
     let l = sound .each k (ltb-false lastStream k (o 13)) .totals in
-    subst (λ (x : ℕ). x ≤ calorificBound) (a .1) (mean-bounded (t .energy) (t .volume) (l .energy) (l .volume) (omega arith))
+    subst (λ (x : ℕ). x ≤ calorificBound) (a .1) (mean-bounded (t .superior) (t .volume) (l .superior) (l .volume) (omega arith))

@@ -33,7 +33,7 @@ booked u e n = record { whole = (amountIn u e + n) / u; rest = (amountIn u e + n
 
 -- totals with v dm³ more, and v × Hs mJ more; with no analysis, 16 has refused the call
 abbrev pub added : StreamTotals → InForce → ℕ → StreamTotals
-added t a v = record { volume = t .volume + v; energy = booked perMJ (t .energy) (v * hsOf a) }
+added t a v = record { volume = t .volume + v; superior = booked perMJ (t .superior) (v * hsOf a) }
 
 abbrev pub metered : Stream → ℕ → Stream
 metered s v = record { analysis = s .analysis; totals = added (s .totals) (s .analysis) v }
@@ -62,4 +62,4 @@ abbrev pub meanIn : Register → ℕ → ℕ
 meanIn e v = near (amountIn perMJ e) v
 
 abbrev pub meanOf : Meter → ℕ → Outcome ℕ
-meanOf m k = decided (firstOf (meanOrder k (streamAt m k))) (meanIn (streamAt m k .totals .energy) (streamAt m k .totals .volume))
+meanOf m k = decided (firstOf (meanOrder k (streamAt m k))) (meanIn (streamAt m k .totals .superior) (streamAt m k .totals .volume))

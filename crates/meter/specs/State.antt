@@ -27,7 +27,7 @@ perMJ = 1000000000
 
 -- no analysis, volume 0, energy 0
 abbrev pub freshStream : Stream
-freshStream = record { analysis = Nothing; totals = record { volume = 0; energy = record { whole = 0; rest = 0 } } }
+freshStream = record { analysis = Nothing; totals = record { volume = 0; superior = record { whole = 0; rest = 0 } } }
 
 -- 16 streams, 0 to 15
 abbrev pub freshMeter : Meter
@@ -58,7 +58,7 @@ pub record SoundRegister (u ceiling v : ℕ) (e : Register) : Type 0 where
 -- what holds of the totals of every stream
 pub record SoundTotals (t : StreamTotals) : Type 0 where
   pub volume : t .volume ≤ mostTotal
-  pub energy : SoundRegister perMJ calorificBound (t .volume) (t .energy)
+  pub superior : SoundRegister perMJ calorificBound (t .volume) (t .superior)
 
 -- what holds of every stream
 pub record SoundStream (s : Stream) : Type 0 where

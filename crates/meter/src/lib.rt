@@ -46,7 +46,7 @@ pub struct Register {
 // The totals of a stream: the volume in dm³, and the energy.
 pub struct StreamTotals {
     pub volume: u64,
-    pub energy: Register,
+    pub superior: Register,
 }
 
 // A stream: the analysis in force, and the totals.
@@ -86,7 +86,7 @@ pub fn fresh() -> Meter
         analysis: InForce::Nothing,
         totals: StreamTotals {
             volume: 0,
-            energy: Register { whole: 0, rest: 0 },
+            superior: Register { whole: 0, rest: 0 },
         },
     };
     Meter {
@@ -215,12 +215,12 @@ fn metered(before: Stream, volume: u64) -> Stream
     ensures { λ r. ⌜ r ≡ metered before volume ⌝ }
 {
     let analysis = before.analysis;
-    let energy = booked(before.totals.energy, PER_MJ, volume, hs_in_force(analysis));
+    let superior = booked(before.totals.superior, PER_MJ, volume, hs_in_force(analysis));
     Stream {
         analysis,
         totals: StreamTotals {
             volume: before.totals.volume + volume,
-            energy,
+            superior,
         },
     }
 }
@@ -282,5 +282,5 @@ pub fn mean(meter: Meter, stream: usize) -> MeanAnswer
         return MeanAnswer::Refused(13);
     }
     let s = meter.streams[stream];
-    mean_over(s.totals.energy, s.totals.volume)
+    mean_over(s.totals.superior, s.totals.volume)
 }

@@ -45,7 +45,7 @@ pub record Alike (s : Stream) (l : StreamTally) : Type 0 where
   pub inForce : SameInForce (s .analysis) (l .inForce)
   pub pair : l .pair ≡ pairOf (l .inForce)
   pub volume : s .totals .volume ≡ l .volume
-  pub energy : AlikeRegister perMJ (l .volume) (s .totals .energy) (l .energy)
+  pub superior : AlikeRegister perMJ (l .volume) (s .totals .superior) (l .superior)
 
 -- a volume w at a value n that is the record's h, which is x unrounded
 register-grows : (u v w : ℕ) {n h : ℕ} (x : Fraction) (e : Register) (a : Account) → 0 < u → n ≡ h → Within (whole 2) h x → AlikeRegister u v e a →
@@ -90,7 +90,7 @@ module _ (s : Stream) (l : StreamTally) (h : Alike s l) (k : ℕ) where
         inForce = known bs (gasOf bs) refl refl (accepted-properties bs (clear-analysis k bs s z .clear));
         pair = refl;
         volume = h .volume;
-        energy = h .energy;
+        superior = h .superior;
       }
 
   -- an accepted volume
@@ -105,15 +105,15 @@ module _ (s : Stream) (l : StreamTally) (h : Alike s l) (k : ℕ) where
             inForce = h .inForce;
             pair = h .pair;
             volume = ap (λ (n : ℕ). n + v) (h .volume);
-            energy =
-                register-grows perMJ (l .volume) v (unrounded.Hs (contentsIn bs)) (s .totals .energy) (l .energy) (omega arith)
-                (ap hsOf ei ∙ sym (ap (λ (p : Six). p .Hs) (found .1))) (distances (contentsIn bs) (acceptable bs (found .0)) .Hs) (h .energy);
+            superior =
+                register-grows perMJ (l .volume) v (unrounded.Hs (contentsIn bs)) (s .totals .superior) (l .superior) (omega arith)
+                (ap hsOf ei ∙ sym (ap (λ (p : Six). p .Hs) (found .1))) (distances (contentsIn bs) (acceptable bs (found .0)) .Hs) (h .superior);
           }
 
 -- the same readings
 module _ (s : Stream) (l : StreamTally) (h : Alike s l) where
   pub totals-alike : totalsGiven (s .totals) ≡ givenBy totals l
-  totals-alike = cc (h .volume, parts-alike perMJ (l .volume) (s .totals .energy) (l .energy) (h .energy))
+  totals-alike = cc (h .volume, parts-alike perMJ (l .volume) (s .totals .superior) (l .superior) (h .superior))
 
-  pub mean-alike : meanIs (meanIn (s .totals .energy) (s .totals .volume)) ≡ givenBy mean l
-  mean-alike = cc (h .energy .amount, h .volume)
+  pub mean-alike : meanIs (meanIn (s .totals .superior) (s .totals .volume)) ≡ givenBy mean l
+  mean-alike = cc (h .superior .amount, h .volume)

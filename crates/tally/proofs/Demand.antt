@@ -38,14 +38,14 @@ mean-distance t n v x p h =
     }
 
 -- the mean of an account beside the stream k of a meter
-account-ceiling : (m : Meter) (k : ℕ) (l : StreamTally) → k ≤ lastStream → Sound m → Alike (streamAt m k) l → 0 < l .volume → near (l .energy .booked) (l .volume) ≤ calorificBound
+account-ceiling : (m : Meter) (k : ℕ) (l : StreamTally) → k ≤ lastStream → Sound m → Alike (streamAt m k) l → 0 < l .volume → near (l .superior .booked) (l .volume) ≤ calorificBound
 account-ceiling m k l b sound a p =
-    rw (← a .energy .amount, ← a .volume)
+    rw (← a .superior .amount, ← a .volume)
     (no-mean-above-ceiling m k _ sound (rw (le-ltb lastStream k b, ne-eqb (streamAt m k .totals .volume) 0 (omega (arith, a .volume)))))
 
 -- a fresh meter beside a fresh tally
 fresh-alike : Alike freshStream freshStreamTally
-fresh-alike = record { inForce = nothing; pair = refl; volume = refl; energy = record { rest = omega arith; amount = refl; within = omega arith } }
+fresh-alike = record { inForce = nothing; pair = refl; volume = refl; superior = record { rest = omega arith; amount = refl; within = omega arith } }
 
 fresh-linked : Linked freshMeter freshTally
 fresh-linked =
@@ -96,10 +96,10 @@ demand3 m₀ m cs rs made ran =
             totals = λ x got. first (step m t (r .linked) (by-totals k x got) .answers) ∙ rw (le-ltb lastStream k b);
             mean = λ x got p. first (step m t (r .linked) (by-mean k x got) .answers) ∙ rw (le-ltb lastStream k b, ne-eqb (l .volume) 0 (omega arith));
             no-mean = λ x got p. first (step m t (r .linked) (by-mean k x got) .answers) ∙ rw (le-ltb lastStream k b, eq-eqb (l .volume) 0 p);
-            energy-within = a .energy .within;
+            superior-within = a .superior .within;
             mean-within =
                 record {
-                  distance = λ p. mean-distance 2 (l .energy .booked) (l .volume) (l .energy .exact) p (a .energy .within);
+                  distance = λ p. mean-distance 2 (l .superior .booked) (l .volume) (l .superior .exact) p (a .superior .within);
                   ceiling = λ p. account-ceiling m k l b (r .linked .sound) a p;
                 };
             inForce = a .inForce;

@@ -63,7 +63,7 @@ fn print_refused(number: u8) {
 fn print_totals(m: Meter, stream: usize) {
     match meter::totals(m, stream) {
         TotalsAnswer::Accepted(t) => {
-            let energy = t.energy;
+            let energy = t.superior;
             report::print_spaced(t.volume);
             report::print_spaced(energy.whole);
             report::print_spaced(energy.rest);

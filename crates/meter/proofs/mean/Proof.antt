@@ -11,7 +11,7 @@ mean-over-requires : tie.Need-mean-over-requires
 mean-over-requires c κs =
     let b = c .before in
     let s = b .before .pre .each (b .before .args .stream) (b .if1 .left) in
-    (s .totals .energy, s .totals .volume)
+    (s .totals .superior, s .totals .volume)
 
 returns-2 : tie.Need-returns-2
 returns-2 c = simp (le-ltb _ _ (c .before .before .if1 .left), c .mean-over .ensures)
