@@ -83,8 +83,11 @@ pub record StreamTally : Type 0 where
   pub superior : Account
 
 -- at first: no record, no pair, and V, E and X are 0
+abbrev pub noAccount : Account
+noAccount = record { booked = 0; exact = whole 0 }
+
 abbrev pub freshStreamTally : StreamTally
-freshStreamTally = record { inForce = none; pair = none; volume = 0; superior = record { booked = 0; exact = whole 0 } }
+freshStreamTally = record { inForce = none; pair = none; volume = 0; superior = noAccount }
 
 -- the streams 0 to 15
 pub record Tally : Type 0 where
@@ -140,7 +143,12 @@ orderOf k mean s = (13, aboveLast k) ∷ (18, noVolume (s .volume)) ∷ []
 abbrev pub meteredBy : Option (List ℕ) → ℕ → StreamTally → StreamTally
 meteredBy none v s = s
 meteredBy (some bs) v s =
-    record { inForce = s .inForce; pair = s .pair; volume = s .volume + v; superior = grown v (Hs (contentsIn bs)) (unrounded.Hs (contentsIn bs)) (s .superior) }
+    record {
+      inForce = s .inForce;
+      pair = s .pair;
+      volume = s .volume + v;
+      superior = grown v (Hs (contentsIn bs)) (unrounded.Hs (contentsIn bs)) (s .superior);
+    }
 
 -- what an accepted call leaves: an analysis brings its record into force, and its pair is the stream's; a reading changes nothing
 abbrev pub leftBy : Ask → StreamTally → StreamTally
