@@ -10,20 +10,21 @@ use lib.Dec.{eqb}
 use lib.ListN.{length-set}
 use lib.Seq.{getD-set-other}
 use Rattle.records.specs.declared.Verdict.{Verdict}
-use Rattle.records.specs.Order.{firstOf, decided}
+use Rattle.records.specs.Order.{accepted, firstOf, decided}
 use Rattle.records.specs.Format.{contentsIn}
-use Rattle.records.specs.Conditions.{recordOrder}
 use Rattle.records.specs.Answers.{Gives}
 use Rattle.records.proofs.OrderLaws.{unmet, decided-accepted}
 use Rattle.records.proofs.Accepted.{acceptable}
-use Rattle.properties.specs.Chain as chain
 use Rattle.properties.specs.Quantities.{calorificBound}
 use Rattle.properties.proofs.Gas.{bounded}
+use Rattle.meter.specs.declared.InForce.{InForce}
+use Rattle.meter.specs.declared.InForce.the-variants.{Nothing, Known}
+use Rattle.meter.specs.declared.Register.{Register}
 use Rattle.meter.specs.declared.Stream.{Stream}
 use Rattle.meter.specs.declared.Meter.{Meter}
-use Rattle.meter.specs.State.{lastStream, mostTotal, SoundStream, Sound, freshStream, streamAt, withStream, perMJ}
+use Rattle.meter.specs.State.{lastStream, mostTotal, SoundRegister, SoundTotals, SoundAnalysis, SoundStream, Sound, freshStream, streamAt, withStream, perMJ}
 use Rattle.meter.specs.Conditions.{analysisOrder, meteringOrder, meanOrder}
-use Rattle.meter.specs.Calls.{analysed, metered, meanIn}
+use Rattle.meter.specs.Calls.{analysed, withVolume, metered, meanIn, meanReading}
 use Rattle.meter.specs.Kept.{FreshIsSound, AnalysisKeeps, MeteringKeeps, AnalysisLeavesOthers, MeteringLeavesOthers, ZeroIsAccepted, NoMeanAboveCeiling}
 use Rattle.meter.proofs.Orders.{clear-analysis, clear-metering}
 use Rattle.meter.proofs.Registers.{sound-booked}
@@ -51,19 +52,29 @@ kept : (n : ℕ) (m : Meter) (k : ℕ) (s : Stream) (v : Verdict) (after : Meter
 kept zero m k s v after gives h new = subst Sound (sym (gives .stands)) (with-sound m k s h (new refl))
 kept (suc n) m k s v after gives h new = subst Sound (sym (gives .stands)) h
 
-hs-bounded : (bs : List ℕ) → firstOf (recordOrder bs) ≡ 0 → chain.Hs (contentsIn bs) ≤ calorificBound
-hs-bounded bs clear = bounded (contentsIn bs) (acceptable bs clear) .Hs
-
 pub analysis-keeps : AnalysisKeeps
 analysis-keeps m k bs v after gives h =
     kept (firstOf (analysisOrder k bs s)) m k (analysed s bs) v after gives h
     (λ z.
     let c = clear-analysis k bs s z in
     let old = h .each k (c .stream) in
-    record { Hs = hs-bounded bs (c .clear); totals = old .totals })
+    record { analysis = bounded (contentsIn bs) (acceptable bs (c .clear)); totals = old .totals })
   where
     s : Stream
     s = streamAt m k
+
+sound-metered : (s : Stream) (w : ℕ) (a : InForce) → SoundStream s → SoundAnalysis a → s .totals .volume + w ≤ mostTotal → SoundStream (withVolume a w s)
+sound-metered s w Nothing old b total = old
+sound-metered s w (Known gas) old b total =
+    let t = s .totals in
+    let booked = sound-booked perMJ (omega arith) calorificBound (t .volume) w in
+    record {
+      analysis = old .analysis;
+      totals = record {
+        volume = total;
+        superior = booked _ (t .superior) (old .totals .superior) (mul-le-mul-left w (b .Hs));
+      };
+    }
 
 pub metering-keeps : MeteringKeeps
 metering-keeps m k w v after gives h =
@@ -71,8 +82,7 @@ metering-keeps m k w v after gives h =
     (λ z.
     let c = clear-metering k w s z in
     let old = h .each k (c .stream) in
-    let t = s .totals in
-    record { Hs = old .Hs; totals = record { volume = c .total; energy = sound-booked perMJ (omega arith) calorificBound (t .volume) w _ (t .energy) (old .totals .energy) (mul-le-mul-left w (old .Hs)) } })
+    sound-metered s w (s .analysis) old (old .analysis) (c .total))
   where
     s : Stream
     s = streamAt m k
@@ -93,12 +103,16 @@ pub zero-is-accepted : ZeroIsAccepted
 zero-is-accepted m k h b some =
     rw (le-ltb lastStream k b, some, le-ltb mostTotal (streamAt m k .totals .volume + 0) (omega (arith, h .each k b .totals .volume)))
 
-pub no-mean-above-ceiling : NoMeanAboveCeiling
-no-mean-above-ceiling m k h sound e =
+mean-at-most : (m : Meter) (k h : ℕ) (e : Register) → Sound m → (SoundTotals (streamAt m k .totals) → SoundRegister perMJ calorificBound (streamAt m k .totals .volume) e) →
+    meanReading k (streamAt m k) e ≡ accepted h → h ≤ calorificBound
+mean-at-most m k h r sound of e =
     let s = streamAt m k in
-    let t = s .totals in
-    let a = decided-accepted (firstOf (meanOrder k s)) (meanIn (t .energy) (t .volume)) h e in
+    let v = s .totals .volume in
+    let a = decided-accepted (firstOf (meanOrder k s)) (meanIn r v) h e in
     let o = unmet (meanOrder k s) tt (a .0) in
-    let z = eqb-false (t .volume) 0 (o 18) in
+    let z = eqb-false v 0 (o 18) in
     let l = sound .each k (ltb-false lastStream k (o 13)) .totals in
-    subst (λ (x : ℕ). x ≤ calorificBound) (a .1) (mean-bounded (t .energy) (t .volume) (l .energy) (l .volume) (omega arith))
+    subst (λ (x : ℕ). x ≤ calorificBound) (a .1) (mean-bounded r v (of l) (l .volume) (omega arith))
+
+pub no-mean-above-ceiling : NoMeanAboveCeiling
+no-mean-above-ceiling m k h sound = mean-at-most m k h (streamAt m k .totals .superior) sound (λ l. l .superior)

@@ -8,12 +8,12 @@ use Rattle.properties.specs.Chain.{sixOf}
 use Rattle.properties.specs.Answers.{quantities}
 use Rattle.meter.specs.declared.Gas.{Gas}
 use Rattle.meter.specs.declared.InForce.{InForce}
-use Rattle.meter.specs.declared.InForce.the-variants.{Known}
+use Rattle.meter.specs.declared.InForce.the-variants.{Nothing, Known}
 use Rattle.meter.specs.declared.Register.{Register}
 use Rattle.meter.specs.declared.Stream.{Stream}
 use Rattle.meter.specs.declared.Meter.{Meter}
 use Rattle.meter.specs.declared.StreamTotals.{StreamTotals}
-use Rattle.meter.specs.State.{streamAt, withStream, hsOf, amountIn, perMJ}
+use Rattle.meter.specs.State.{streamAt, withStream, amountIn, perMJ}
 use Rattle.meter.specs.Conditions.{analysisOrder, meteringOrder, totalsOrder, meanOrder}
 
 -- an accepted record as a gas in force
@@ -31,12 +31,21 @@ analysed s bs = withGas s (gasOf bs)
 abbrev pub booked : ℕ → Register → ℕ → Register
 booked u e n = record { whole = (amountIn u e + n) / u; rest = (amountIn u e + n) % u }
 
--- totals with v dm³ more, and v × Hs mJ more; with no analysis, 16 has refused the call
-abbrev pub added : StreamTotals → InForce → ℕ → StreamTotals
-added t a v = record { volume = t .volume + v; energy = booked perMJ (t .energy) (v * hsOf a) }
+-- totals with v dm³ more, and v × Hs mJ more
+abbrev pub added : StreamTotals → Gas → ℕ → StreamTotals
+added t gas v =
+    record {
+      volume = t .volume + v;
+      superior = booked perMJ (t .superior) (v * gas .properties .hs .value);
+    }
+
+-- a stream with that, by the analysis in force; with none, 16 has refused the call
+abbrev pub withVolume : InForce → ℕ → Stream → Stream
+withVolume Nothing v s = s
+withVolume (Known gas) v s = record { analysis = s .analysis; totals = added (s .totals) gas v }
 
 abbrev pub metered : Stream → ℕ → Stream
-metered s v = record { analysis = s .analysis; totals = added (s .totals) (s .analysis) v }
+metered s v = withVolume (s .analysis) v s
 
 -- the analysis call: the record's properties come into force on the stream k
 abbrev pub analysisOf : Meter → ℕ → List ℕ → Outcome Meter
@@ -57,9 +66,12 @@ afterMetering m k v = otherwise m (meteringOf m k v)
 abbrev pub totalsOf : Meter → ℕ → Outcome StreamTotals
 totalsOf m k = decided (firstOf (totalsOrder k)) (streamAt m k .totals)
 
--- the reading of the mean, in J/m³: near(energy in mJ / volume in dm³)
+-- the reading of a mean, in J/m³: near(energy in mJ / volume in dm³)
 abbrev pub meanIn : Register → ℕ → ℕ
 meanIn e v = near (amountIn perMJ e) v
 
+abbrev pub meanReading : ℕ → Stream → Register → Outcome ℕ
+meanReading k s e = decided (firstOf (meanOrder k s)) (meanIn e (s .totals .volume))
+
 abbrev pub meanOf : Meter → ℕ → Outcome ℕ
-meanOf m k = decided (firstOf (meanOrder k (streamAt m k))) (meanIn (streamAt m k .totals .energy) (streamAt m k .totals .volume))
+meanOf m k = meanReading k (streamAt m k) (streamAt m k .totals .superior)

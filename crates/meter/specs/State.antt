@@ -2,7 +2,8 @@
 use mathlib.Core.Path.{_≡_}
 use Prim.Native.Nat.{ℕ, _+_, _*_, _≤_, _<_}
 use lib.ListN.{length, getD, set, replicate}
-use Rattle.properties.specs.Quantities.{calorificBound}
+use Rattle.properties.specs.Quantities.{calorificBound, Bounded}
+use Rattle.properties.specs.Answers.{numbers}
 use Rattle.meter.specs.declared.InForce.{InForce}
 use Rattle.meter.specs.declared.InForce.the-variants.{Nothing, Known}
 use Rattle.meter.specs.declared.Register.{Register}
@@ -26,8 +27,11 @@ abbrev pub perMJ : ℕ
 perMJ = 1000000000
 
 -- no analysis, volume 0, energy 0
+abbrev pub nothingBooked : Register
+nothingBooked = record { whole = 0; rest = 0 }
+
 abbrev pub freshStream : Stream
-freshStream = record { analysis = Nothing; totals = record { volume = 0; energy = record { whole = 0; rest = 0 } } }
+freshStream = record { analysis = Nothing; totals = record { volume = 0; superior = nothingBooked } }
 
 -- 16 streams, 0 to 15
 abbrev pub freshMeter : Meter
@@ -41,11 +45,6 @@ streamAt m k = getD (m .streams) k freshStream
 abbrev pub withStream : Meter → ℕ → Stream → Meter
 withStream m k s = record { streams = set (m .streams) k s }
 
--- Hs of the analysis in force, 0 where there is none
-abbrev pub hsOf : InForce → ℕ
-hsOf Nothing = 0
-hsOf (Known gas) = gas .properties .hs .value
-
 -- what a register holds, in units of its rest, u of which make one of its whole part
 abbrev pub amountIn : ℕ → Register → ℕ
 amountIn u e = e .whole * u + e .rest
@@ -58,11 +57,16 @@ pub record SoundRegister (u ceiling v : ℕ) (e : Register) : Type 0 where
 -- what holds of the totals of every stream
 pub record SoundTotals (t : StreamTotals) : Type 0 where
   pub volume : t .volume ≤ mostTotal
-  pub energy : SoundRegister perMJ calorificBound (t .volume) (t .energy)
+  pub superior : SoundRegister perMJ calorificBound (t .volume) (t .superior)
+
+-- what holds of every analysis in force: no property passes its ceiling
+abbrev pub SoundAnalysis : InForce → Type 0
+SoundAnalysis Nothing = Unit
+SoundAnalysis (Known gas) = Bounded (numbers (gas .properties))
 
 -- what holds of every stream
 pub record SoundStream (s : Stream) : Type 0 where
-  pub Hs : hsOf (s .analysis) ≤ calorificBound
+  pub analysis : SoundAnalysis (s .analysis)
   pub totals : SoundTotals (s .totals)
 
 -- what holds of every meter, as made or as its calls left it

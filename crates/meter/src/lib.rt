@@ -9,10 +9,11 @@ ghost use mathlib.Core.Path.{_≡_};
 ghost use Prim.Native.Nat.{_+_, _*_, _^_, _≤_, _<_};
 ghost use Rattle.records.specs.Order.{firstOf, decided};
 ghost use Rattle.records.specs.Answers.{Gives};
-ghost use Rattle.properties.specs.Quantities.{calorificBound};
-ghost use Rattle.meter.specs.State.{mostVolume, mostTotal, perMJ, freshMeter, hsOf, SoundRegister, SoundStream, Sound};
+ghost use Rattle.properties.specs.Quantities.{calorificBound, Bounded};
+ghost use Rattle.properties.specs.Answers.{numbers};
+ghost use Rattle.meter.specs.State.{mostVolume, mostTotal, perMJ, freshMeter, SoundRegister, SoundTotals, SoundStream, Sound};
 ghost use Rattle.meter.specs.Conditions.{pairDiffers, noAnalysis, totalZero, pairOrder, volumeOrder, zeroOrder};
-ghost use Rattle.meter.specs.Calls.{withGas, booked, metered, analysisOf, meteringOf, totalsOf, meanIn, meanOf};
+ghost use Rattle.meter.specs.Calls.{withGas, booked, added, metered, analysisOf, meteringOf, totalsOf, meanIn, meanOf};
 ghost use Rattle.meter.specs.Answers.{totalsMeaning, meanMeaning};
 
 // The last stream.
@@ -43,10 +44,10 @@ pub struct Register {
     pub rest: u64,
 }
 
-// The totals of a stream: the volume in dm³, and the energy.
+// The totals of a stream: the volume in dm³, and the energy by the superior calorific value.
 pub struct StreamTotals {
     pub volume: u64,
-    pub energy: Register,
+    pub superior: Register,
 }
 
 // A stream: the analysis in force, and the totals.
@@ -86,7 +87,7 @@ pub fn fresh() -> Meter
         analysis: InForce::Nothing,
         totals: StreamTotals {
             volume: 0,
-            energy: Register { whole: 0, rest: 0 },
+            superior: Register { whole: 0, rest: 0 },
         },
     };
     Meter {
@@ -158,16 +159,6 @@ pub fn analysis(mut meter: Meter, stream: usize, bytes: &[u8]) -> Changed
     }
 }
 
-// The superior calorific value in force, 0 where there is none.
-fn hs_in_force(analysis: InForce) -> u64
-    ensures { λ r. ⌜ r ≡ hsOf analysis ⌝ }
-{
-    match analysis {
-        InForce::Nothing => 0,
-        InForce::Known(gas) => gas.properties.hs.value(),
-    }
-}
-
 // 16: the stream has no analysis.
 fn no_analysis(analysis: InForce) -> bool
     ensures { λ r. ⌜ r ≡ noAnalysis analysis ⌝ }
@@ -208,19 +199,32 @@ fn booked(before: Register, unit: u64, volume: u64, value: u64) -> Register
     }
 }
 
-// The stream with the volume, and volume × Hs in mJ, added.
+// The totals with the volume, and volume × Hs in mJ, added.
+fn added(before: StreamTotals, gas: Gas, volume: u64) -> StreamTotals
+    requires { ⌜ SoundTotals before × Bounded (numbers (gas .properties)) ⌝ }
+    requires { ⌜ (volume ≤ mostVolume) × (before .volume + volume ≤ mostTotal) ⌝ }
+    ensures { λ r. ⌜ r ≡ added before gas volume ⌝ }
+{
+    let superior = booked(before.superior, PER_MJ, volume, gas.properties.hs.value());
+    StreamTotals {
+        volume: before.volume + volume,
+        superior,
+    }
+}
+
+// The stream with the volume added. With no analysis, 16 has refused it.
 fn metered(before: Stream, volume: u64) -> Stream
     requires { ⌜ SoundStream before ⌝ }
     requires { ⌜ (volume ≤ mostVolume) × (before .totals .volume + volume ≤ mostTotal) ⌝ }
     ensures { λ r. ⌜ r ≡ metered before volume ⌝ }
 {
     let analysis = before.analysis;
-    let energy = booked(before.totals.energy, PER_MJ, volume, hs_in_force(analysis));
-    Stream {
-        analysis,
-        totals: StreamTotals {
-            volume: before.totals.volume + volume,
-            energy,
+    let totals = before.totals;
+    match analysis {
+        InForce::Nothing => before,
+        InForce::Known(gas) => Stream {
+            analysis,
+            totals: added(totals, gas, volume),
         },
     }
 }
@@ -282,5 +286,5 @@ pub fn mean(meter: Meter, stream: usize) -> MeanAnswer
         return MeanAnswer::Refused(13);
     }
     let s = meter.streams[stream];
-    mean_over(s.totals.energy, s.totals.volume)
+    mean_over(s.totals.superior, s.totals.volume)
 }

@@ -21,9 +21,9 @@ use Rattle.properties.proofs.Outcomes.{accepted-properties, clear-of-accepted}
 use Rattle.meter.specs.declared.InForce.{InForce}
 use Rattle.meter.specs.declared.Register.{Register}
 use Rattle.meter.specs.declared.Stream.{Stream}
-use Rattle.meter.specs.State.{hsOf, amountIn}
+use Rattle.meter.specs.State.{amountIn}
 use Rattle.meter.specs.Conditions.{pairDiffers, noAnalysis, analysisOrder, meteringOrder, meanOrder}
-use Rattle.meter.specs.Calls.{gasOf, analysed, booked, metered, meanIn}
+use Rattle.meter.specs.Calls.{gasOf, analysed, booked, withVolume, metered, meanIn}
 use Rattle.meter.proofs.Registers.{amount-booked}
 use Rattle.meter.proofs.Orders.{clear-analysis, clear-metering}
 use Rattle.tally.specs.Tally.{perMJ, analysis, metering, totals, mean, meanIs, Account, partsOf, grown, StreamTally, otherPair, noRecord, orderOf, meteredBy, leftBy, givenBy}
@@ -45,7 +45,7 @@ pub record Alike (s : Stream) (l : StreamTally) : Type 0 where
   pub inForce : SameInForce (s .analysis) (l .inForce)
   pub pair : l .pair ≡ pairOf (l .inForce)
   pub volume : s .totals .volume ≡ l .volume
-  pub energy : AlikeRegister perMJ (l .volume) (s .totals .energy) (l .energy)
+  pub superior : AlikeRegister perMJ (l .volume) (s .totals .superior) (l .superior)
 
 -- a volume w at a value n that is the record's h, which is x unrounded
 register-grows : (u v w : ℕ) {n h : ℕ} (x : Fraction) (e : Register) (a : Account) → 0 < u → n ≡ h → Within (whole 2) h x → AlikeRegister u v e a →
@@ -90,30 +90,31 @@ module _ (s : Stream) (l : StreamTally) (h : Alike s l) (k : ℕ) where
         inForce = known bs (gasOf bs) refl refl (accepted-properties bs (clear-analysis k bs s z .clear));
         pair = refl;
         volume = h .volume;
-        energy = h .energy;
+        superior = h .superior;
       }
 
   -- an accepted volume
   pub metering-alike : (v : ℕ) → firstOf (meteringOrder k v s) ≡ 0 → Alike (metered s v) (leftBy (metering v) l)
-  metering-alike v z = go refl refl (h .inForce)
+  metering-alike v z = go refl (h .inForce)
     where
-      go : {i : InForce} {o : Option (List ℕ)} → s .analysis ≡ i → l .inForce ≡ o → SameInForce i o → Alike (metered s v) (meteredBy o v l)
-      go ei eo nothing = elim (true≢false (sym (ap noAnalysis ei) ∙ clear-metering k v s z .analysed)) [ ]
-      go ei eo (known bs gas ec em e) =
+      go : {i : InForce} {o : Option (List ℕ)} → s .analysis ≡ i → SameInForce i o → Alike (withVolume i v s) (meteredBy o v l)
+      go ei nothing = elim (true≢false (sym (ap noAnalysis ei) ∙ clear-metering k v s z .analysed)) [ ]
+      go ei (known bs gas ec em e) =
           let found = clear-of-accepted bs (numbers (gas .properties)) e in
+          let near = distances (contentsIn bs) (acceptable bs (found .0)) in
           record {
             inForce = h .inForce;
             pair = h .pair;
             volume = ap (λ (n : ℕ). n + v) (h .volume);
-            energy =
-                register-grows perMJ (l .volume) v (unrounded.Hs (contentsIn bs)) (s .totals .energy) (l .energy) (omega arith)
-                (ap hsOf ei ∙ sym (ap (λ (p : Six). p .Hs) (found .1))) (distances (contentsIn bs) (acceptable bs (found .0)) .Hs) (h .energy);
+            superior =
+                register-grows perMJ (l .volume) v (unrounded.Hs (contentsIn bs)) (s .totals .superior) (l .superior) (omega arith)
+                (sym (ap (λ (p : Six). p .Hs) (found .1))) (near .Hs) (h .superior);
           }
 
 -- the same readings
 module _ (s : Stream) (l : StreamTally) (h : Alike s l) where
   pub totals-alike : totalsGiven (s .totals) ≡ givenBy totals l
-  totals-alike = cc (h .volume, parts-alike perMJ (l .volume) (s .totals .energy) (l .energy) (h .energy))
+  totals-alike = cc (h .volume, parts-alike perMJ (l .volume) (s .totals .superior) (l .superior) (h .superior))
 
-  pub mean-alike : meanIs (meanIn (s .totals .energy) (s .totals .volume)) ≡ givenBy mean l
-  mean-alike = cc (h .energy .amount, h .volume)
+  pub mean-alike : meanIs (meanIn (s .totals .superior) (s .totals .volume)) ≡ givenBy mean l
+  mean-alike = cc (h .superior .amount, h .volume)

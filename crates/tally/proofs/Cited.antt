@@ -1,53 +1,38 @@
 -- The functions whose contracts `Run` reads are proved (`-proved`: their theorems, by name), and what `Run` reads of a contract is what a
 -- caller knows by it (`-read`).
 use borrow.Fn.Picked.{KnownAs}
-use Rattle.meter.proofs.fresh.Kinds as fresh-kinds
-use Rattle.meter.proofs.fresh.Met as fresh-met
-use Rattle.meter.proofs.fresh.Reads as fresh-reads
-use Rattle.meter.proofs.fresh.Statement as fresh
-use Rattle.meter.proofs.analysis.Kinds as analysis-kinds
-use Rattle.meter.proofs.analysis.Met as analysis-met
-use Rattle.meter.proofs.analysis.Reads as analysis-reads
-use Rattle.meter.proofs.analysis.Statement as analysis
-use Rattle.meter.proofs.metering.Kinds as metering-kinds
-use Rattle.meter.proofs.metering.Met as metering-met
-use Rattle.meter.proofs.metering.Reads as metering-reads
-use Rattle.meter.proofs.metering.Statement as metering
-use Rattle.meter.proofs.totals.Kinds as totals-kinds
-use Rattle.meter.proofs.totals.Met as totals-met
-use Rattle.meter.proofs.totals.Reads as totals-reads
-use Rattle.meter.proofs.totals.Statement as totals
-use Rattle.meter.proofs.mean.Kinds as mean-kinds
-use Rattle.meter.proofs.mean.Met as mean-met
-use Rattle.meter.proofs.mean.Reads as mean-reads
-use Rattle.meter.proofs.mean.Statement as mean
+use Rattle.meter.proofs.fresh as fresh
+use Rattle.meter.proofs.analysis as analysis
+use Rattle.meter.proofs.metering as metering
+use Rattle.meter.proofs.totals as totals
+use Rattle.meter.proofs.mean as mean
 
-pub fresh-proved : {M : Type 1} → fresh.statement M
-fresh-proved = fresh-met.met
+pub fresh-proved : {M : Type 1} → fresh.Statement.statement M
+fresh-proved = fresh.Met.met
 
-pub fresh-read : KnownAs 0 fresh-kinds.ps fresh-kinds.r fresh-reads.Ghost fresh-reads.requires fresh-reads.ensures fresh-reads.Asked fresh-reads.Learnt
-fresh-read = fresh-reads.known
+pub fresh-read : KnownAs 0 fresh.Kinds.ps fresh.Kinds.r fresh.Reads.Ghost fresh.Reads.requires fresh.Reads.ensures fresh.Reads.Asked fresh.Reads.Learnt
+fresh-read = fresh.Reads.known
 
-pub analysis-proved : {M : Type 1} → analysis.statement M
-analysis-proved = analysis-met.met
+pub analysis-proved : {M : Type 1} → analysis.Statement.statement M
+analysis-proved = analysis.Met.met
 
-pub analysis-read : KnownAs 1 analysis-kinds.ps analysis-kinds.r analysis-reads.Ghost analysis-reads.requires analysis-reads.ensures analysis-reads.Asked analysis-reads.Learnt
-analysis-read = analysis-reads.known
+pub analysis-read : KnownAs 1 analysis.Kinds.ps analysis.Kinds.r analysis.Reads.Ghost analysis.Reads.requires analysis.Reads.ensures analysis.Reads.Asked analysis.Reads.Learnt
+analysis-read = analysis.Reads.known
 
-pub metering-proved : {M : Type 1} → metering.statement M
-metering-proved = metering-met.met
+pub metering-proved : {M : Type 1} → metering.Statement.statement M
+metering-proved = metering.Met.met
 
-pub metering-read : KnownAs 0 metering-kinds.ps metering-kinds.r metering-reads.Ghost metering-reads.requires metering-reads.ensures metering-reads.Asked metering-reads.Learnt
-metering-read = metering-reads.known
+pub metering-read : KnownAs 0 metering.Kinds.ps metering.Kinds.r metering.Reads.Ghost metering.Reads.requires metering.Reads.ensures metering.Reads.Asked metering.Reads.Learnt
+metering-read = metering.Reads.known
 
-pub totals-proved : {M : Type 1} → totals.statement M
-totals-proved = totals-met.met
+pub totals-proved : {M : Type 1} → totals.Statement.statement M
+totals-proved = totals.Met.met
 
-pub totals-read : KnownAs 0 totals-kinds.ps totals-kinds.r totals-reads.Ghost totals-reads.requires totals-reads.ensures totals-reads.Asked totals-reads.Learnt
-totals-read = totals-reads.known
+pub totals-read : KnownAs 0 totals.Kinds.ps totals.Kinds.r totals.Reads.Ghost totals.Reads.requires totals.Reads.ensures totals.Reads.Asked totals.Reads.Learnt
+totals-read = totals.Reads.known
 
-pub mean-proved : {M : Type 1} → mean.statement M
-mean-proved = mean-met.met
+pub mean-proved : {M : Type 1} → mean.Statement.statement M
+mean-proved = mean.Met.met
 
-pub mean-read : KnownAs 0 mean-kinds.ps mean-kinds.r mean-reads.Ghost mean-reads.requires mean-reads.ensures mean-reads.Asked mean-reads.Learnt
-mean-read = mean-reads.known
+pub mean-read : KnownAs 0 mean.Kinds.ps mean.Kinds.r mean.Reads.Ghost mean.Reads.requires mean.Reads.ensures mean.Reads.Asked mean.Reads.Learnt
+mean-read = mean.Reads.known

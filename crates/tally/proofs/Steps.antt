@@ -142,4 +142,4 @@ module _ (m : Meter) (t : Tally) (h : Linked m t) where
   step (by-mean k r got) =
       let s = streamAt m k in
       let l = tallyAt t k in
-      reads m t h meanIs k mean (meanMeaning r) (firstOf (meanOrder k s)) (meanIn (s .totals .energy) (s .totals .volume)) (ap firstOf (mean-order s l (h .each k) k)) (got (h .sound)) (mean-alike s l (h .each k)) refl
+      reads m t h meanIs k mean (meanMeaning r) (firstOf (meanOrder k s)) (meanIn (s .totals .superior) (s .totals .volume)) (ap firstOf (mean-order s l (h .each k) k)) (got (h .sound)) (mean-alike s l (h .each k)) refl

@@ -53,7 +53,7 @@ cases =
     ((on 0 (metering 1000), refused 16)
     ∷ (on 0 (analysis k2), accepted done)
     ∷ (on 0 (metering 1000), accepted done)
-    ∷ (on 0 totals, accepted (totalsAre (record { volume = 1000; energy = record { whole = 37; rest = 781616000 } })))
+    ∷ (on 0 totals, accepted (totalsAre (record { volume = 1000; superior = record { whole = 37; rest = 781616000 } })))
     ∷ (on 0 mean, accepted (meanIs 37781616))
     ∷ [])  -- K9
     ∷ rule (record { line = 23; place = 0; superior = 2700200; inferior = 2524100; twice = 352200; atoms = 8; water = 44016; product = 352128 })  -- K10
@@ -62,7 +62,7 @@ cases =
 -- the same answer: the number of a refusal, or the figures that are given
 abbrev pub figuresOf : Given → List ℕ
 figuresOf done = []
-figuresOf (totalsAre t) = t .volume ∷ t .energy .whole ∷ t .energy .rest ∷ []
+figuresOf (totalsAre t) = t .volume ∷ t .superior .whole ∷ t .superior .rest ∷ []
 figuresOf (meanIs x) = x ∷ []
 
 abbrev pub sameAnswer : Answer → Answer → Bool

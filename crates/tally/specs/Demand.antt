@@ -75,8 +75,8 @@ pub record StreamDemand (k : ℕ) (s : StreamTally) (cs : List Call) (rs : List 
   -- a reading of the mean made then answers near(E / V), or 18 where V is 0
   pub mean : (r : MeanAnswer) → MeanReturns m k r → 0 < s .volume → meanAnswer r ≡ accepted (givenBy mean s)
   pub no-mean : (r : MeanAnswer) → MeanReturns m k r → s .volume ≡ 0 → meanAnswer r ≡ refused 18
-  pub energy-within : AccountWithin (s .volume) (s .energy)
-  pub mean-within : MeanWithin (s .volume) (s .energy)
+  pub superior-within : AccountWithin (s .volume) (s .superior)
+  pub mean-within : MeanWithin (s .volume) (s .superior)
   pub inForce : SameInForce (streamAt m k .analysis) (s .inForce)
 
 -- what the contracts require of a meter, with any other arguments

@@ -59,7 +59,7 @@ abbrev pub partsGiven : Register → Parts
 partsGiven e = record { whole = e .whole; rest = e .rest }
 
 abbrev pub totalsGiven : StreamTotals → Given
-totalsGiven t = totalsAre (record { volume = t .volume; energy = partsGiven (t .energy) })
+totalsGiven t = totalsAre (record { volume = t .volume; superior = partsGiven (t .superior) })
 
 abbrev pub totalsAnswer : TotalsAnswer → Answer
 totalsAnswer r = mapped totalsGiven (totalsMeaning r)

@@ -47,10 +47,10 @@ pub record Parts : Type 0 where
   pub whole : ℕ
   pub rest : ℕ
 
--- the totals of a stream: the volume in dm³, and the energy as whole MJ and a rest in mJ
+-- the totals of a stream: the volume in dm³, and the energy by the superior calorific value as whole MJ and a rest in mJ
 pub record Totals : Type 0 where
   pub volume : ℕ
-  pub energy : Parts
+  pub superior : Parts
 
 -- what an accepted call gives: an analysis or a metering only that it is done, a reading the totals, or the mean in J/m³
 pub data Given : Type 0 where
@@ -75,16 +75,19 @@ partsOf u a = record { whole = a .booked / u; rest = a .booked % u }
 abbrev pub grown : ℕ → ℕ → Fraction → Account → Account
 grown v h x a = record { booked = a .booked + v * h; exact = plus (a .exact) (times v x) }
 
--- what the tally keeps for a stream: the record in force, the pair (combustion, metering), the volume V in dm³, and the energy
+-- what the tally keeps for a stream: the record in force, the pair (combustion, metering), the volume V in dm³, and the energy by Hs
 pub record StreamTally : Type 0 where
   pub inForce : Option (List ℕ)
   pub pair : Option (ℕ × ℕ)
   pub volume : ℕ
-  pub energy : Account
+  pub superior : Account
 
 -- at first: no record, no pair, and V, E and X are 0
+abbrev pub noAccount : Account
+noAccount = record { booked = 0; exact = whole 0 }
+
 abbrev pub freshStreamTally : StreamTally
-freshStreamTally = record { inForce = none; pair = none; volume = 0; energy = record { booked = 0; exact = whole 0 } }
+freshStreamTally = record { inForce = none; pair = none; volume = 0; superior = noAccount }
 
 -- the streams 0 to 15
 pub record Tally : Type 0 where
@@ -140,11 +143,16 @@ orderOf k mean s = (13, aboveLast k) ∷ (18, noVolume (s .volume)) ∷ []
 abbrev pub meteredBy : Option (List ℕ) → ℕ → StreamTally → StreamTally
 meteredBy none v s = s
 meteredBy (some bs) v s =
-    record { inForce = s .inForce; pair = s .pair; volume = s .volume + v; energy = grown v (Hs (contentsIn bs)) (unrounded.Hs (contentsIn bs)) (s .energy) }
+    record {
+      inForce = s .inForce;
+      pair = s .pair;
+      volume = s .volume + v;
+      superior = grown v (Hs (contentsIn bs)) (unrounded.Hs (contentsIn bs)) (s .superior);
+    }
 
 -- what an accepted call leaves: an analysis brings its record into force, and its pair is the stream's; a reading changes nothing
 abbrev pub leftBy : Ask → StreamTally → StreamTally
-leftBy (analysis bs) s = record { inForce = some bs; pair = some (combustionIn bs, meteringIn bs); volume = s .volume; energy = s .energy }
+leftBy (analysis bs) s = record { inForce = some bs; pair = some (combustionIn bs, meteringIn bs); volume = s .volume; superior = s .superior }
 leftBy (metering v) s = meteredBy (s .inForce) v s
 leftBy totals s = s
 leftBy mean s = s
@@ -153,8 +161,8 @@ leftBy mean s = s
 abbrev pub givenBy : Ask → StreamTally → Given
 givenBy (analysis bs) s = done
 givenBy (metering v) s = done
-givenBy totals s = totalsAre (record { volume = s .volume; energy = partsOf perMJ (s .energy) })
-givenBy mean s = meanIs (near (s .energy .booked) (s .volume))
+givenBy totals s = totalsAre (record { volume = s .volume; superior = partsOf perMJ (s .superior) })
+givenBy mean s = meanIs (near (s .superior .booked) (s .volume))
 
 -- one call: refused by the first condition that holds, and then the tally stays as it is, or accepted
 abbrev pub numberFor : Tally → Call → ℕ

@@ -58,7 +58,7 @@ fn print_stream(m: Meter, stream: usize)
     let MeanAnswer::Accepted(mean) = meter::mean(m, stream) else {
         return;
     };
-    let energy = totals.energy;
+    let energy = totals.superior;
     report::print_number(stream as u64);
     report::print_spaced(totals.volume);
     report::print_spaced(energy.whole);

@@ -73,7 +73,7 @@ fn print_totals(m: Meter, stream: usize) {
     print_call(b"totals", stream);
     match meter::totals(m, stream) {
         TotalsAnswer::Accepted(t) => {
-            let energy = t.energy;
+            let energy = t.superior;
             report::print_text(b": ");
             report::print_amount(t.volume, b" dm3, ");
             report::print_amount(energy.whole, b" MJ ");

@@ -4,17 +4,11 @@ use borrow.Author.Needs.{needs}
 use Rattle.meter.proofs.mean.Statement.{statement}
 use Rattle.meter.proofs.mean.Tie as tie
 
-returns : tie.Need-returns
-returns c = simp (lt-ltb _ _ (c .if1 .taken))
-
 mean-over-requires : tie.Need-mean-over-requires
-mean-over-requires c κs =
-    let b = c .before in
-    let s = b .before .pre .each (b .before .args .stream) (b .if1 .left) in
-    (s .totals .energy, s .totals .volume)
-
-returns-2 : tie.Need-returns-2
-returns-2 c = simp (le-ltb _ _ (c .before .before .if1 .left), c .mean-over .ensures)
+mean-over-requires c κs = let t = c .before .before .pre .each (c .before .before .args .stream) (c .before .if1 .left) .totals in (t .superior, t .volume)
 
 pub mean-spec : {M : Type 1} → statement M
-mean-spec = tie.close (tie.spec returns (λ c. search needs) (λ c. search needs) mean-over-requires returns-2)
+mean-spec =
+    tie.close
+    (tie.spec (λ c. simp (lt-ltb _ _ (c .if1 .taken))) (λ c. search needs) (λ c. search needs) mean-over-requires
+    (λ c. simp (le-ltb _ _ (c .before .before .if1 .left), c .mean-over .ensures)))

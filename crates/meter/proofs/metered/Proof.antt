@@ -1,14 +1,17 @@
--- The volume and its energy.
-use native.Mathlib.Omega.{arith}
+-- By the analysis in force, where there is one.
+use mathlib.Core.Path.{subst}
 use borrow.Author.Needs.{needs}
+use Rattle.meter.specs.State.{SoundAnalysis}
 use Rattle.meter.proofs.metered.Statement.{statement}
 use Rattle.meter.proofs.metered.Tie as tie
 
-booked-requires : tie.Need-booked-requires
-booked-requires c κs =
-    let p = c .before .pre in
-    let t = p .0 .totals in
-    ((t .energy .rest, omega arith, omega (arith, t .energy .amount, t .volume)), (p .1 .0, omega (arith, c .hs-in-force .ensures, p .0 .Hs)))
+added-requires : tie.Need-added-requires
+added-requires c κs =
+    let p = c .before .before .before .before .pre in
+    ((p .0 .totals, subst SoundAnalysis (c .before .analysis .given .1) (p .0 .analysis)), p .1)
+
+returns-2 : tie.Need-returns-2
+returns-2 c = rw (c .before .before .analysis .given .1, c .added .ensures)
 
 pub metered-spec : {M : Type 1} → statement M
-metered-spec = tie.close (tie.spec (λ c κs. search needs) booked-requires (λ c. search needs) (λ c. cc))
+metered-spec = tie.close (tie.spec (λ c. search needs) (λ c. search needs) added-requires (λ c. search needs) returns-2)
