@@ -6,7 +6,7 @@ use Prim.Native.Nat.{ℕ, _+_}
 use lib.Dec.{eqb, ltb}
 use Rattle.records.specs.Order.{Order, numbersOf}
 use Rattle.records.specs.Format.{combustionIn, meteringIn}
-use Rattle.records.specs.Conditions.{recordOrder}
+use Rattle.records.specs.Conditions.{recordOrder, recordNumbers}
 use Rattle.meter.specs.declared.InForce.{InForce}
 use Rattle.meter.specs.declared.InForce.the-variants.{Nothing, Known}
 use Rattle.meter.specs.declared.Stream.{Stream}
@@ -63,7 +63,7 @@ meanOrder k s = (13, streamAbove k) ∷ zeroOrder (totalZero (s .totals .volume)
 
 -- analysis tries 13, 1 to 12, 14; metering 13, 15, 16, 17; totals 13; mean 13, 18
 abbrev pub AnalysisNumbers : Type 0
-AnalysisNumbers = (k : ℕ) (bs : List ℕ) (s : Stream) → numbersOf (analysisOrder k bs s) ≡ 13 ∷ 1 ∷ 2 ∷ 3 ∷ 4 ∷ 5 ∷ 6 ∷ 7 ∷ 8 ∷ 9 ∷ 10 ∷ 11 ∷ 12 ∷ 14 ∷ []
+AnalysisNumbers = (k : ℕ) (bs : List ℕ) (s : Stream) → numbersOf (analysisOrder k bs s) ≡ 13 ∷ recordNumbers ++ (14 ∷ [])
 
 abbrev pub MeteringNumbers : Type 0
 MeteringNumbers = (k v : ℕ) (s : Stream) → numbersOf (meteringOrder k v s) ≡ 13 ∷ 15 ∷ 16 ∷ 17 ∷ []

@@ -157,12 +157,19 @@ writerOrder k room = startOrder k ++ (contentOrder (k .lines) (k .fractions) ++ 
 abbrev pub rewriteOrder : List ℕ → ℕ → Order
 rewriteOrder bs room = recordOrder bs ++ roomOrder room (countIn bs)
 
--- a record tries 1 to 12, the writer 19, 4, 5, 7 to 12, 20, and rewriting 1 to 12, 20, whatever the input
+-- the numbers of the content, and of a record, in the order in which they are tried
+abbrev pub contentNumbers : List ℕ
+contentNumbers = 7 ∷ 8 ∷ 9 ∷ 10 ∷ 11 ∷ 12 ∷ []
+
+abbrev pub recordNumbers : List ℕ
+recordNumbers = 1 ∷ 2 ∷ 3 ∷ 4 ∷ 5 ∷ 6 ∷ contentNumbers
+
+-- a record tries its numbers, the writer 19, 4, 5, those of the content, 20, and rewriting those of a record, 20, whatever the input
 abbrev pub RecordNumbers : Type 0
-RecordNumbers = (bs : List ℕ) → numbersOf (recordOrder bs) ≡ 1 ∷ 2 ∷ 3 ∷ 4 ∷ 5 ∷ 6 ∷ 7 ∷ 8 ∷ 9 ∷ 10 ∷ 11 ∷ 12 ∷ []
+RecordNumbers = (bs : List ℕ) → numbersOf (recordOrder bs) ≡ recordNumbers
 
 abbrev pub WriterNumbers : Type 0
-WriterNumbers = (k : Contents) (room : ℕ) → numbersOf (writerOrder k room) ≡ 19 ∷ 4 ∷ 5 ∷ 7 ∷ 8 ∷ 9 ∷ 10 ∷ 11 ∷ 12 ∷ 20 ∷ []
+WriterNumbers = (k : Contents) (room : ℕ) → numbersOf (writerOrder k room) ≡ 19 ∷ 4 ∷ 5 ∷ contentNumbers ++ (20 ∷ [])
 
 abbrev pub RewriteNumbers : Type 0
-RewriteNumbers = (bs : List ℕ) (room : ℕ) → numbersOf (rewriteOrder bs room) ≡ 1 ∷ 2 ∷ 3 ∷ 4 ∷ 5 ∷ 6 ∷ 7 ∷ 8 ∷ 9 ∷ 10 ∷ 11 ∷ 12 ∷ 20 ∷ []
+RewriteNumbers = (bs : List ℕ) (room : ℕ) → numbersOf (rewriteOrder bs room) ≡ recordNumbers ++ (20 ∷ [])
