@@ -9,12 +9,11 @@ use borrow.Author.Needs.{needs}
 use Rattle.loonstool.proofs.give.Statement.{statement}
 use Rattle.loonstool.proofs.give.Tie as tie
 
+returns : tie.Need-returns
+returns c = refusal _ (ap (λ (a : Answer). mapped inOrder (meaning a)) (sym (c .before .answer .given .1))) refl (search needs)
+
+returns-2 : tie.Need-returns-2
+returns-2 c = acceptance _ (ap (λ (a : Answer). mapped inOrder (meaning a)) (sym (c .before .before .answer2 .given .1))) refl (search needs)
+
 pub give-spec : {M : Type 1} → statement M
-give-spec =
-    tie.close
-    (tie.spec
-    (λ c. search needs)
-    (λ c. search needs)
-    (λ c κs. search needs)
-    (λ c. refusal _ (ap (λ (a : Answer). mapped inOrder (meaning a)) (sym (c .before .answer .given .1))) refl (search needs))
-    (λ c. acceptance _ (ap (λ (a : Answer). mapped inOrder (meaning a)) (sym (c .before .before .answer2 .given .1))) refl (search needs)))
+give-spec = tie.close (tie.spec (λ c. search needs) (λ c. search needs) (λ c κs. search needs) returns returns-2)
