@@ -20,15 +20,19 @@ const SLICE: Duration = Duration::from_millis(2);
 
 const WARM_UP: Duration = Duration::from_millis(200);
 
-/// A side under test. It is called through a pointer, so that none is inlined in the loop.
+/// A side under test.
 type Side<'a> = &'a dyn Fn(&[u8]);
 
-/// Library, plain Rust and C.
+/// Library, plain Rust and C, each called through a pointer that the compiler does not know, so that none is inlined.
 const SIDES: [Side; 3] = [
-    &|record| _ = black_box(loonstool::properties_of(record)),
-    &|record| _ = black_box(plain::properties_of(record)),
-    &|record| _ = black_box(in_doubles(record)),
+    &|record| _ = black_box(through(loonstool::properties_of)(record)),
+    &|record| _ = black_box(through(plain::properties_of)(record)),
+    &|record| _ = black_box(through(in_doubles)(record)),
 ];
+
+fn through<T>(side: fn(&[u8]) -> T) -> fn(&[u8]) -> T {
+    black_box(side)
+}
 
 extern "C" {
     fn doubles_take_table(numbers: *const [[i32; 12]; 55]);
