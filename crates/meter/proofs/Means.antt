@@ -13,4 +13,4 @@ module _ (e : Register) (v : ℕ) (sound : SoundRegister perMJ calorificBound v 
   mean-bounded = at-most (near-half (amountIn perMJ e) v some) (omega (arith, sound .amount))
 
   pub mean-wide : Wide (e .whole) (e .rest) v
-  mean-wide = record { proper = some; divisor = omega (arith, total); below = sound .rest; fits = omega (arith, mean-bounded) }
+  mean-wide = record { proper = some; small = omega (arith, total); below = sound .rest; fits = omega (arith, mean-bounded) }

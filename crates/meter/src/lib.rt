@@ -191,8 +191,8 @@ fn booked(before: Register, unit: u64, volume: u64, value: u64) -> Register
     requires { ⌜ (volume ≤ mostVolume) × (value < 2 ^ 32) ⌝ }
     ensures { λ r. ⌜ r ≡ booked unit before (volume * value) ⌝ }
 {
-    let added = volume * value;
-    let rest = before.rest + added;
+    let more = volume * value;
+    let rest = before.rest + more;
     Register {
         whole: before.whole + rest / unit,
         rest: rest % unit,

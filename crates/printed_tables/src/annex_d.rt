@@ -52,14 +52,14 @@ pub fn print_name(k: usize) -> bool {
 
 // The values whose figures are printed, from the sums and the properties of the gas: h_m is the ideal calorific value per kilogram, J/kg,
 // and the ideal relative density has 1 for the compression factor of air.
-fn values(sums: gas::Totals, p: Properties) -> Values
-    requires { ⌜ sums ≡ gasTotals ⌝ }
+fn values(totals: gas::Totals, p: Properties) -> Values
+    requires { ⌜ totals ≡ gasTotals ⌝ }
     ensures { λ r. ⌜ r ≡ textValues (numbers p) ⌝ }
 {
-    let h_m = rounding::nearest(10000000 * sums.h, sums.m);
-    let h_0 = steps::ideal_calorific_value(sums.h, 15);
-    let d_0 = steps::ideal_relative_density(sums.m, 100000);
-    let rho_0 = steps::ideal_density(sums.m, 15);
+    let h_m = rounding::nearest(10000000 * totals.h, totals.m);
+    let h_0 = steps::ideal_calorific_value(totals.h, 15);
+    let d_0 = steps::ideal_relative_density(totals.m, 100000);
+    let rho_0 = steps::ideal_density(totals.m, 15);
     let w_0 = steps::wobbe_index(CalorificValue::new(h_0), RelativeDensity::new(d_0)).value();
     let z = p.z.value();
     let h = p.hs.value();
@@ -67,8 +67,8 @@ fn values(sums: gas::Totals, p: Properties) -> Values
     let rho = p.rho.value();
     let w = p.w.value();
     [
-        [sums.x, sums.m, sums.h, sums.s, sums.h, h_m],
-        [h_m, sums.mass, h_0, h_0, sums.volume, sums.s],
+        [totals.x, totals.m, totals.h, totals.s, totals.h, h_m],
+        [h_m, totals.mass, h_0, h_0, totals.volume, totals.s],
         [z, z, h, h, d_0, d_0],
         [d, d, rho_0, rho_0, rho, rho],
         [w_0, w_0, w, w, w, 0],

@@ -30,10 +30,10 @@ const SUPERIOR: [usize; 6] = [8, 10, 8, 4, 6, 4];
 const METERING: [u8; 6] = [15, 0, 0, 0, 20, 20];
 
 // Three decimals for methane and, in table 5, hydrogen; two for the other lines.
-pub fn scale(number: u8, line: usize) -> u64
-    ensures { λ r. ⌜ (r ≡ scaleOf number line) × (r ≤ 1000) ⌝ }
+pub fn scale(table: u8, line: usize) -> u64
+    ensures { λ r. ⌜ (r ≡ scaleOf table line) × (r ≤ 1000) ⌝ }
 {
-    if (line == 1) | ((number == 5) & (line == 41)) {
+    if (line == 1) | ((table == 5) & (line == 41)) {
         return 1000;
     }
     100
@@ -58,14 +58,14 @@ pub fn per_cubic_metre(line: usize, column: usize) -> u64
     rounding::nearest(value * scale(5, line), 1000000)
 }
 
-pub fn print_comparison(number: u8, part: parts::Part, figures: &[u32])
+pub fn print_comparison(table: u8, part: parts::Part, figures: &[u32])
     requires { ⌜ length (now figures) ≡ figuresIn part ⌝ }
 {
     let counts = parts::count(parts::Counts::new(), part, figures, &[[0; 6]; 5]);
-    places::print_table(number);
+    places::print_table(table);
     print_text(b": ");
     counts.print();
     print_text(b"not compared: the names of ");
-    places::print_table(number);
+    places::print_table(table);
     print_text(b"; it has no lines 49 to 55\n");
 }

@@ -3,10 +3,11 @@ use mathlib.Core.Path.{_≡_}
 use mathlib.Core.Bool.{true, false}
 use mathlib.Core.List.{List}
 use Prim.Native.Nat.{ℕ, _≤_}
+use native.Mathlib.Omega.{arith}
 use borrow.Author.Tests.{ltb-false, not-false, eqb-true, eqb-false}
 use lib.ListN.{length}
 use Rattle.records.specs.Order.{firstOf}
-use Rattle.records.specs.Format.{Contents, recordLength, combustionIn, meteringIn, countIn}
+use Rattle.records.specs.Format.{Contents, headLength, recordLength, combustionIn, meteringIn, countIn}
 use Rattle.records.specs.Conditions.{permitted, markDiffers, versionDiffers, countOutside, headOrder, startOrder, writerOrder}
 use Rattle.records.proofs.OrderLaws.{unmet, neither}
 
@@ -20,7 +21,7 @@ count n h = let e = neither _ _ h in record { some = eqb-false _ _ (e .0); few =
 
 -- where none of 1 to 6 holds
 pub record Head (bs : List ℕ) : Type 0 where
-  pub long : 8 ≤ length bs
+  pub long : headLength ≤ length bs
   pub mark : markDiffers bs ≡ false
   pub version : versionDiffers bs ≡ false
   pub pair : permitted (combustionIn bs) (meteringIn bs) ≡ true
@@ -38,6 +39,9 @@ head bs e =
       entries = count _ (h 5);
       exact = eqb-true _ _ (not-false _ (h 6));
     }
+
+pub holds : {bs : List ℕ} → Head bs → recordLength (countIn bs) ≤ length bs
+holds h = omega (arith, h .exact)
 
 -- what the writer needs: as many fractions as line numbers, at most 55, and room for the record
 pub record Room (k : Contents) (room : ℕ) : Type 0 where

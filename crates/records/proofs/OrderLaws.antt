@@ -1,6 +1,6 @@
 -- Laws of orders of refusals: which part of an order decides, what is known where no condition holds, and what a call then gives.
 use mathlib.Core.Path.{_≡_, refl, sym, _∙_}
-use mathlib.Core.Bool.{Bool, true, false, _||_, cond}
+use mathlib.Core.Bool.{Bool, true, false, _&&_, _||_, cond}
 use mathlib.Core.List.{[], _∷_, _++_}
 use Prim.Native.Nat.{ℕ, zero, suc}
 use native.Mathlib.Omega.{arith}
@@ -58,6 +58,10 @@ unmet ((suc m, false) ∷ rest) t h n = one-of (eqb (suc m) n) (conditionOf n re
 pub neither : (a b : Bool) → (a || b) ≡ false → (a ≡ false) × (b ≡ false)
 neither true b h = (h, cc)
 neither false b h = (refl, h)
+
+pub both : (a b : Bool) → (a && b) ≡ true → (a ≡ true) × (b ≡ true)
+both true b h = (refl, h)
+both false b h = (h, cc)
 
 pub verdict-refused : (number : ℕ) → (number ≡ 0 → ⊥) → Refused number ≡ verdictOf number
 verdict-refused zero h = elim (h refl) [ ]

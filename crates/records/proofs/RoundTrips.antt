@@ -1,10 +1,11 @@
 -- The writer fills its bytes, and the round trips hold.
 use mathlib.Core.Path.{_≡_, refl, sym, ap, _∙_}
+use mathlib.Core.Bool.{_&&_}
 use mathlib.Core.List.{List, [], _∷_, _++_}
 use Prim.Native.Nat.{ℕ, zero, suc, _+_, _*_, _^_, _≤_, _<_}
 use native.Mathlib.Omega.{arith}
 use borrow.Author.Tests.{le-ltb, eq-eqb, ne-eqb, ltb-false, not-false, eqb-true}
-use lib.Dec.{ltb}
+use lib.Dec.{eqb, ltb}
 use lib.ListN.{length, getD, take, drop, take-append-drop, length-drop}
 use lib.Seq.{take-suc, getD-drop}
 use Rattle.components.specs.Composition.{mostSum, total}
@@ -13,7 +14,7 @@ use Rattle.records.specs.Format.{Contents, Bytes, entriesAt, recordLengt
 use Rattle.records.specs.Conditions.{leastSum, headOrder, contentOrder, recordOrder, startOrder, roomOrder, writerOrder, rewriteOrder}
 use Rattle.records.specs.Calls.{readingOf, writingOf, rewritingOf}
 use Rattle.records.specs.RoundTrips.{FillsItsBytes, ReadThenWritten, WrittenThenRead}
-use Rattle.records.proofs.OrderLaws.{passes, clear-first, clear-second, unmet, neither, decided-accepted}
+use Rattle.records.proofs.OrderLaws.{passes, clear-first, clear-second, unmet, neither, both, decided-accepted}
 use Rattle.records.proofs.Heads.{Head, head, Start, start, room-of}
 use Rattle.records.proofs.Placing.{placed-front, placed-others, placed-length}
 use Rattle.records.proofs.Digits.{digit-0, digit-1, digit-2, digit-3, from-digits}
@@ -48,11 +49,11 @@ entries-again (suc n) es b e =
 head-again : (bs : List ℕ) → Head bs → take entriesAt bs ≡ headBytes (combustionIn bs) (meteringIn bs) (countIn bs)
 unfolding firsts
 head-again bs h =
-    let m = neither _ _ (h .mark) in
-    let m' = neither _ _ (m .0) in
-    let e₀ : getD bs 0 0 ≡ 71 = eqb-true _ _ (not-false _ (m' .0)) in
-    let e₁ : getD bs 1 0 ≡ 67 = eqb-true _ _ (not-false _ (m' .1)) in
-    let e₂ : getD bs 2 0 ≡ 82 = eqb-true _ _ (not-false _ (m .1)) in
+    let m = both (eqb (getD bs 0 0) 71 && eqb (getD bs 1 0) 67) (eqb (getD bs 2 0) 82) (not-false _ (h .mark)) in
+    let m' = both (eqb (getD bs 0 0) 71) (eqb (getD bs 1 0) 67) (m .0) in
+    let e₀ : getD bs 0 0 ≡ 71 = eqb-true _ _ (m' .0) in
+    let e₁ : getD bs 1 0 ≡ 67 = eqb-true _ _ (m' .1) in
+    let e₂ : getD bs 2 0 ≡ 82 = eqb-true _ _ (m .1) in
     let v : getD bs 3 0 + 256 * getD bs 4 0 ≡ 1 = eqb-true _ _ (not-false _ (h .version)) in
     let e₃ : getD bs 3 0 ≡ 1 = omega arith in
     let e₄ : getD bs 4 0 ≡ 0 = omega arith in
@@ -69,7 +70,7 @@ bytes-again bs b h =
 
 -- an accepted record's head and content
 module _ (bs : List ℕ) (h : firstOf (recordOrder bs) ≡ 0) where
-  pub accepted-clear : firstOf (headOrder bs) ≡ 0
+  accepted-clear : firstOf (headOrder bs) ≡ 0
   accepted-clear = clear-first (headOrder bs) (contentOrder (linesIn bs) (fractionsIn bs)) tt h
 
   pub accepted-head : Head bs

@@ -4,10 +4,10 @@ use mathlib.Core.Bool.{Bool, false, not, _&&_, _||_, cond}
 use mathlib.Core.List.{List, [], _∷_, _++_}
 use Prim.Native.Nat.{ℕ}
 use lib.Dec.{eqb, leb, ltb}
-use lib.ListN.{length, getD}
+use lib.ListN.{length}
 use Rattle.components.specs.Composition.{mostSum, leastMethane, total, fractionFor}
 use Rattle.records.specs.Order.{Order, numbersOf}
-use Rattle.records.specs.Format.{Contents, mark, version, headLength, recordLength, versionIn, combustionIn, meteringIn, countIn, linesIn, fractionsIn}
+use Rattle.records.specs.Format.{Contents, version, headLength, recordLength, hasMark, versionIn, combustionIn, meteringIn, countIn, linesIn, fractionsIn}
 
 -- the six permitted pairs, combustion/metering
 abbrev pub permitted : ℕ → ℕ → Bool
@@ -49,8 +49,7 @@ tooShort bs = ltb (length bs) headLength
 
 -- 2: mark differs
 abbrev pub markDiffers : List ℕ → Bool
-markDiffers bs =
-    not (eqb (getD bs 0 0) (getD mark 0 0)) || not (eqb (getD bs 1 0) (getD mark 1 0)) || not (eqb (getD bs 2 0) (getD mark 2 0))
+markDiffers bs = not (hasMark bs)
 
 -- 3: version is not 1
 abbrev pub versionDiffers : List ℕ → Bool

@@ -1,6 +1,8 @@
 -- The analysis record of document 01: its bytes, the numbers in them, and what it holds. Numbers stand least significant byte first.
+use mathlib.Core.Bool.{Bool, _&&_}
 use mathlib.Core.List.{List, [], _∷_, _++_}
 use Prim.Native.Nat.{ℕ, zero, suc, _+_, _*_, _/_, _%_, _<_}
+use lib.Dec.{eqb}
 use lib.ListN.{length, getD, take, drop}
 
 -- the pair (combustion and metering temperature in °C), the line numbers, and the mole fractions in ppm
@@ -40,6 +42,9 @@ number2 bs at = getD bs at 0 + 256 * getD bs (at + 1) 0
 
 abbrev pub number4 : List ℕ → ℕ → ℕ
 number4 bs at = getD bs at 0 + 256 * getD bs (at + 1) 0 + 65536 * getD bs (at + 2) 0 + 16777216 * getD bs (at + 3) 0
+
+abbrev pub hasMark : List ℕ → Bool
+hasMark bs = eqb (getD bs 0 0) (getD mark 0 0) && eqb (getD bs 1 0) (getD mark 1 0) && eqb (getD bs 2 0) (getD mark 2 0)
 
 abbrev pub versionIn : List ℕ → ℕ
 versionIn bs = number2 bs 3

@@ -1,7 +1,7 @@
-// The conditions of refusal that need no search, each with document 01's number, and their orders. 0 stands for none.
+// The conditions of refusal but 7, 8 and 11, which need a search, each with document 01's number, and their orders. 0 stands for none.
 ghost use mathlib.Core.Path.{_≡_};
 ghost use Rattle.records.specs.Order.{firstOf};
-ghost use Rattle.records.specs.Conditions.{permitted, limitOf, countOutside, aboveLimit};
+ghost use Rattle.records.specs.Conditions.{permitted, limitOf, countOutside, sumOutside, methaneLow, aboveLimit, waterHigh};
 ghost use Rattle.records.specs.Conditions.{fieldsOrder, limitsOrder, listsOrder, headOrder};
 use super::format;
 
@@ -14,6 +14,13 @@ pub const WATER: u8 = 42;
 const NITROGEN: u8 = 52;
 
 const CARBON_DIOXIDE: u8 = 54;
+
+// The range of the sum of the fractions, and the least fraction of methane, in ppm.
+const LEAST_SUM: u64 = 999900;
+
+const MOST_SUM: u64 = 1000100;
+
+const LEAST_METHANE: u32 = 500000;
 
 // The limit of every line but those named, and no limit but water's is below it.
 const COMMON_LIMIT: u32 = 50000;
@@ -68,7 +75,7 @@ pub fn head_refusal(bytes: &[u8]) -> u8
     }
     let n = format::count_in(bytes);
     fields_refusal(
-        format::mark_differs(bytes),
+        !format::has_mark(bytes),
         format::version_in(bytes) != format::VERSION as u32,
         !pair_permitted(format::combustion_in(bytes), format::metering_in(bytes)),
         count_outside(n),
@@ -77,7 +84,7 @@ pub fn head_refusal(bytes: &[u8]) -> u8
 }
 
 // The highest fraction of a line other than methane.
-pub fn limit_of(line: u8) -> u32
+fn limit_of(line: u8) -> u32
     ensures { λ r. ⌜ r ≡ limitOf line ⌝ }
 {
     if line == NITROGEN {
@@ -90,6 +97,25 @@ pub fn limit_of(line: u8) -> u32
         return 200;
     }
     COMMON_LIMIT
+}
+
+// 9, 10 and 12: the sum outside its range, methane too low, water above its limit; in ppm.
+pub fn sum_outside(sum: u64) -> bool
+    ensures { λ r. ⌜ r ≡ sumOutside sum ⌝ }
+{
+    (sum < LEAST_SUM) | (MOST_SUM < sum)
+}
+
+pub fn methane_low(fraction: u32) -> bool
+    ensures { λ r. ⌜ r ≡ methaneLow fraction ⌝ }
+{
+    fraction < LEAST_METHANE
+}
+
+pub fn water_high(fraction: u32) -> bool
+    ensures { λ r. ⌜ r ≡ waterHigh fraction ⌝ }
+{
+    limit_of(WATER) < fraction
 }
 
 // An entry of a line other than methane and water is above its limit.

@@ -2,9 +2,7 @@
 ghost use mathlib.Core.Path.{_≡_};
 ghost use Prim.Native.Nat.{_+_, _≤_, _<_};
 ghost use lib.ListN.{length, getD, replicate};
-ghost use Rattle.records.specs.Format.{contents, headLength, entriesAt, recordLength, number2, number4, versionIn, combustionIn, meteringIn, countIn, linesIn, fractionsIn, headBytes, entryBytes, entriesBytes, bytesOf, placed};
-ghost use Rattle.records.specs.Order.{firstOf};
-ghost use Rattle.records.specs.Conditions.{markDiffers, headOrder};
+ghost use Rattle.records.specs.Format.{contents, headLength, entriesAt, recordLength, number2, number4, hasMark, versionIn, combustionIn, meteringIn, countIn, linesIn, fractionsIn, headBytes, entryBytes, entriesBytes, bytesOf, placed};
 ghost use Rattle.records.specs.Answers.{padded};
 
 // The version of a record.
@@ -50,15 +48,14 @@ pub fn number_4(bytes: &[u8], at: usize) -> u32
         + 16777216 * wide(bytes[at + 3])
 }
 
-// 2, of a list that has a head.
-pub fn mark_differs(bytes: &[u8]) -> bool
+// What stands in a head: the mark, the version, the pair of temperatures in °C, and the entry count.
+pub fn has_mark(bytes: &[u8]) -> bool
     requires { ⌜ headLength ≤ length (now bytes) ⌝ }
-    ensures { λ r. ⌜ r ≡ markDiffers (now (bytes .entry)) ⌝ }
+    ensures { λ r. ⌜ r ≡ hasMark (now (bytes .entry)) ⌝ }
 {
-    (bytes[0] != b'G') | (bytes[1] != b'C') | (bytes[2] != b'R')
+    (bytes[0] == b'G') & (bytes[1] == b'C') & (bytes[2] == b'R')
 }
 
-// What stands in a head: the version, the pair of temperatures in °C, and the entry count.
 pub fn version_in(bytes: &[u8]) -> u32
     requires { ⌜ headLength ≤ length (now bytes) ⌝ }
     ensures { λ r. ⌜ r ≡ versionIn (now (bytes .entry)) ⌝ }
@@ -87,9 +84,9 @@ pub fn count_in(bytes: &[u8]) -> usize
     bytes[7] as usize
 }
 
-// The line number and the fraction of the entry k, counted from 0, of a record where none of 1 to 6 holds.
+// The line number and the fraction of the entry k, counted from 0, of bytes that hold the entries they count.
 pub fn line_in(bytes: &[u8], k: usize) -> u8
-    requires { ⌜ firstOf (headOrder (now bytes)) ≡ 0 ⌝ }
+    requires { ⌜ recordLength (countIn (now bytes)) ≤ length (now bytes) ⌝ }
     requires { ⌜ k < countIn (now bytes) ⌝ }
     ensures { λ r. ⌜ r ≡ getD (linesIn (now (bytes .entry))) k 0 ⌝ }
 {
@@ -97,16 +94,16 @@ pub fn line_in(bytes: &[u8], k: usize) -> u8
 }
 
 pub fn fraction_in(bytes: &[u8], k: usize) -> u32
-    requires { ⌜ firstOf (headOrder (now bytes)) ≡ 0 ⌝ }
+    requires { ⌜ recordLength (countIn (now bytes)) ≤ length (now bytes) ⌝ }
     requires { ⌜ k < countIn (now bytes) ⌝ }
     ensures { λ r. ⌜ r ≡ getD (fractionsIn (now (bytes .entry))) k 0 ⌝ }
 {
     number_4(bytes, record_length(k) + 1)
 }
 
-// The entries of a record where none of 1 to 6 holds into two arrays that hold 0.
+// The entries, at most 55, into two arrays that hold 0.
 pub fn read_entries(bytes: &[u8], lines: &mut [u8], fractions: &mut [u32])
-    requires { ⌜ firstOf (headOrder (now bytes)) ≡ 0 ⌝ }
+    requires { ⌜ (recordLength (countIn (now bytes)) ≤ length (now bytes)) × (countIn (now bytes) ≤ 55) ⌝ }
     requires { ⌜ (now lines ≡ replicate 55 0) × (now fractions ≡ replicate 55 0) ⌝ }
     ensures { λ _. ⌜ (now (lines .exit) ≡ padded (linesIn (now (bytes .entry)))) × (now (fractions .exit) ≡ padded (fractionsIn (now (bytes .entry)))) ⌝ }
 {

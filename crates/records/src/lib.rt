@@ -17,6 +17,7 @@ pub use format::line_in;
 pub use format::metering_in;
 pub use format::number_2;
 pub use format::number_4;
+pub use format::record_length;
 
 // Accepted, or refused with document 01's number.
 pub enum Verdict {

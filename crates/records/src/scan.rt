@@ -11,13 +11,6 @@ ghost use Rattle.records.specs.Conditions.{methane, water, lineBreaks, s
 use super::conditions;
 use super::format;
 
-// The range of the sum of the fractions, and the least fraction of methane, in ppm.
-const LEAST_SUM: u64 = 999900;
-
-const MOST_SUM: u64 = 1000100;
-
-const LEAST_METHANE: u32 = 500000;
-
 // What 9 to 12 need of the entries so far: the sum of the fractions, the fractions of methane and of water, 0 where absent, and
 // whether another line is above its limit.
 struct Scan {
@@ -83,10 +76,12 @@ fn with_entry(scan: Scan, line: u8, fraction: u32) -> Scan
 fn scan_refusal(scan: Scan) -> u8
     ensures { λ r. ⌜ r ≡ firstOf (limitsOrder (sumOutside (scan .sum)) (methaneLow (scan .methane)) (scan .above) (waterHigh (scan .water))) ⌝ }
 {
-    let sum_outside = (scan.sum < LEAST_SUM) | (MOST_SUM < scan.sum);
-    let methane_low = scan.methane < LEAST_METHANE;
-    let water_high = conditions::limit_of(conditions::WATER) < scan.water;
-    conditions::limits_refusal(sum_outside, methane_low, scan.above, water_high)
+    conditions::limits_refusal(
+        conditions::sum_outside(scan.sum),
+        conditions::methane_low(scan.methane),
+        scan.above,
+        conditions::water_high(scan.water),
+    )
 }
 
 // 7 of a record where none of 1 to 6 holds.

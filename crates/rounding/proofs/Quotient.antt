@@ -51,10 +51,10 @@ after2 whole rest q = after1 whole rest q % q * 10000 + rest % 10000
 
 module _ {whole rest q : ℕ} (w : Wide whole rest q) where
   pub after1-fits : after1 whole rest q < 2 ^ 64
-  after1-fits = omega (arith, rest-below whole q (w .proper), w .divisor, w .below)
+  after1-fits = omega (arith, rest-below whole q (w .proper), w .small, w .below)
 
   pub after2-fits : after2 whole rest q < 2 ^ 64
-  after2-fits = omega (arith, rest-below (after1 whole rest q) q (w .proper), w .divisor)
+  after2-fits = omega (arith, rest-below (after1 whole rest q) q (w .proper), w .small)
 
   pub digits : whole / q * 1000000000 + after1 whole rest q / q * 10000 + near (after2 whole rest q) q ≡ near (dividend whole rest) q
   digits =

@@ -8,6 +8,6 @@ dividend whole rest = whole * 1000000000 + rest
 -- what the division of such a dividend by q asks: the rest is below one unit of the whole part, and the answer fits 64 bits
 pub record Wide (whole rest q : ℕ) : Type 0 where
   pub proper : 0 < q
-  pub divisor : q ≤ 100000000000000
+  pub small : q ≤ 100000000000000
   pub below : rest < 1000000000
   pub fits : near (dividend whole rest) q < 2 ^ 64

@@ -22,7 +22,7 @@ fn methane(t: u8) -> [u8; 13]
 }
 
 // An analysis on each stream.
-fn analysed(m: Meter) -> Meter
+fn with_analyses(m: Meter) -> Meter
     requires { ⌜ Sound m ⌝ }
     ensures { λ r. ⌜ (r ≡ analysedTo 16 m) × Sound r ⌝ }
 {
@@ -77,7 +77,7 @@ fn print_streams(m: Meter)
 
 fn main() {
     let m0 = meter::fresh();
-    let m1 = analysed(m0);
+    let m1 = with_analyses(m0);
     let m2 = metered(m1);
     print_streams(m2);
 }

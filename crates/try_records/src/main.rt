@@ -54,7 +54,7 @@ fn gas(combustion: u8, metering: u8, lines: &[u8], fractions: &[u32]) {
     report::print_spaced(untouched(&out));
     if n <= 55 {
         report::print_text(b" read:");
-        print_reading(&out[..8 + 5 * n]);
+        print_reading(&out[..records::record_length(n)]);
     }
     report::end_line();
 }

@@ -11,8 +11,8 @@ use Rattle.meter.proofs.booked.Tie as tie
 small : (c : tie.Start) → c .args .volume * c .args .value ≤ mostVolume * 2 ^ 32
 small c = mul-le-mul (c .pre .1 .0) (le-of-lt (c .pre .1 .1))
 
-mul-added : tie.Need-mul-added
-mul-added c = omega (arith, small c)
+mul-more : tie.Need-mul-more
+mul-more c = omega (arith, small c)
 
 add-rest : tie.Need-add-rest
 add-rest c = omega (arith, small (c .before), c .before .pre .0 .0, c .before .pre .0 .1)
@@ -28,4 +28,4 @@ returns c =
     carried (s .args .unit) (omega (arith, s .pre .0 .0)) (s .args .before) (s .args .volume * s .args .value)
 
 pub booked-spec : {M : Type 1} → statement M
-booked-spec = tie.close (tie.spec mul-added add-rest (λ c. search needs) add-t8 (λ c. search needs) returns)
+booked-spec = tie.close (tie.spec mul-more add-rest (λ c. search needs) add-t8 (λ c. search needs) returns)

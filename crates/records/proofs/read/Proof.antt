@@ -8,7 +8,8 @@ use lib.ListN.{length}
 use Rattle.records.specs.Order.{firstOf}
 use Rattle.records.specs.Format.{headLength}
 use Rattle.records.specs.Conditions.{recordOrder}
-use Rattle.records.proofs.RoundTrips.{accepted-clear, accepted-head}
+use Rattle.records.proofs.Heads.{holds}
+use Rattle.records.proofs.RoundTrips.{accepted-head}
 use Rattle.records.proofs.ReadLaws.{reads-accepted, reads-refused}
 use Rattle.records.proofs.read.Statement.{statement}
 use Rattle.records.proofs.read.Tie as tie
@@ -30,7 +31,7 @@ returns c =
     reads-refused (h .before .before .args .bytes .now) _ _ (h .refusal .ensures) (λ z. omega arith) (c .refused .ensures .0) (c .refused .ensures .1)
 
 read-entries-requires : tie.Need-read-entries-requires
-read-entries-requires c κs = let e = c .before .before in (accepted-clear (bs e) (clear e), search needs)
+read-entries-requires c κs = let h = accepted-head (bs (c .before .before)) (clear (c .before .before)) in ((holds h, h .entries .few), search needs)
 
 combustion-in-requires : tie.Need-combustion-in-requires
 combustion-in-requires c κs = long (c .before .before .before .before .before)

@@ -10,7 +10,6 @@ gas-spec =
     tie.close
     (tie.spec
     (λ c. search needs) (λ c κs. search needs) (λ c. search needs) (λ c κs. search needs) (λ c κs. search needs) (λ c. search needs)
-    (λ c κs. search needs) (λ c κs. search needs) (λ c. search needs) (λ c κs. search needs) (λ c. search needs) (λ c. search needs)
-    (λ c. search needs)
+    (λ c κs. search needs) (λ c κs. search needs) (λ c. search needs) (λ c κs. search needs) (λ c κs. search needs) (λ c. search needs)
     (λ c. sym (length-take-le _ _ (search needs)))
     (λ c κs. search needs) (λ c κs. search needs) (λ c. search needs))

@@ -10,9 +10,9 @@ use Rattle.components.specs.Composition.{sumOf}
 use Rattle.components.proofs.Summing.{Four, no-sums, sums-small, next-sums, all-sums}
 use Rattle.records.specs.Format.{combustionIn, meteringIn, countIn, linesIn, fractionsIn, contentsIn}
 use Rattle.records.specs.Accepted.{Acceptable}
-use Rattle.records.proofs.Heads.{Head}
+use Rattle.records.proofs.Heads.{Head, holds}
 use Rattle.records.proofs.Entries.{count-lines}
-use Rattle.records.proofs.RoundTrips.{accepted-clear, accepted-head}
+use Rattle.records.proofs.RoundTrips.{accepted-head}
 use Rattle.records.proofs.Accepted.{acceptable}
 use Rattle.properties.specs.Chain.{combustionPlace, meteringPlace, HmSuperior, HmInferior, M, S}
 use Rattle.properties.proofs.StepBounds.{combustion-place, metering-place}
@@ -107,8 +107,8 @@ sums-of-spec =
     (λ c κs. headed (c .before .before .before .before .before) .long)
     (λ c κs. tt)
     (λ c. rw (c .no-sums .ensures) (no-sums _ _ _ _))
-    (λ c κs. let s = start (c .before) in (accepted-clear (bs s) (s .pre), omega (arith, n-is (c .before))))
-    (λ c κs. let s = start (c .before .before) in (accepted-clear (bs s) (s .pre), omega (arith, n-is (c .before .before))))
+    (λ c κs. (holds (headed (start (c .before))), omega (arith, n-is (c .before))))
+    (λ c κs. (holds (headed (start (c .before .before))), omega (arith, n-is (c .before .before))))
     add-to-sums-requires
     (λ c. search needs)
     (λ c. omega arith)

@@ -21,7 +21,7 @@ returns-2 c =
     let k = v .before in
     let i = k .before in
     rw (le-ltb _ _ (i .before .if1 .left))
-    (rw (l .record-length .ensures, n .count-outside .ensures, p .pair-permitted .ensures, m .metering-in .ensures, b .combustion-in .ensures, v .version-in .ensures, k .mark-differs .ensures, i .count-in .ensures .0) at
+    (rw (l .record-length .ensures, n .count-outside .ensures, p .pair-permitted .ensures, m .metering-in .ensures, b .combustion-in .ensures, v .version-in .ensures, k .has-mark .ensures, i .count-in .ensures .0) at
     (c .fields-refusal .ensures))
 
 pub head-refusal-spec : {M : Type 1} → statement M

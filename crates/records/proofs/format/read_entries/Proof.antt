@@ -5,7 +5,6 @@ use Prim.Native.Nat.{ℕ, _-_, _≤_}
 use native.Mathlib.Omega.{arith}
 use lib.ListN.{length}
 use Rattle.records.specs.Format.{countIn, linesIn, fractionsIn}
-use Rattle.records.proofs.Heads.{Head, head}
 use Rattle.records.proofs.Entries.{filled, filled-length, fill, full, count-lines, count-fractions}
 use Rattle.records.proofs.format.read_entries.Statement.{statement}
 use Rattle.records.proofs.format.read_entries.Tie as tie
@@ -16,9 +15,6 @@ Inv-loop bytes lines₀ fractions₀ n k₀ lines fractions k =
 
 abbrev μ-loop : tie.MeasureT-loop
 μ-loop bytes lines₀ fractions₀ n k₀ lines fractions k = n - k
-
-headed : (c : tie.Start Inv-loop μ-loop) → Head (c .args .bytes .now)
-headed c = head (c .args .bytes .now) (c .pre .0)
 
 module _ (at : tie.At-loop Inv-loop μ-loop) where
   abbrev start : tie.Start Inv-loop μ-loop
@@ -34,7 +30,7 @@ module _ (at : tie.At-loop Inv-loop μ-loop) where
   n-is = at .before .count-in .ensures .0
 
   few : n ≤ 55
-  few = omega (arith, n-is, headed start .entries .few)
+  few = omega (arith, n-is, start .pre .0 .1)
 
   n-lines : length (linesIn bytes) ≡ n
   n-lines = count-lines bytes ∙ sym n-is
@@ -50,19 +46,19 @@ module _ (at : tie.At-loop Inv-loop μ-loop) where
   fractions-length = filled-length (fractionsIn bytes) _ (at .loop .k) (omega (arith, n-fractions, at .loop .inv .0)) (omega (arith, few, at .loop .inv .0)) (at .loop .inv .2)
 
 count-in-requires : tie.Need-count-in-requires Inv-loop μ-loop
-count-in-requires c κs = headed (c .before .before .before) .long
+count-in-requires c κs = omega (arith, c .before .before .before .pre .0 .0)
 
 loop-holds : tie.Need-loop-holds Inv-loop μ-loop
 loop-holds c = let p = c .before .before .before .before .pre in (omega arith, p .1 .0, p .1 .1)
 
 line-in-requires : tie.Need-line-in-requires Inv-loop μ-loop
-line-in-requires c κs = (start (c .before) .pre .0, omega (arith, n-is (c .before)))
+line-in-requires c κs = (start (c .before) .pre .0 .0, omega (arith, n-is (c .before)))
 
 slice-write-lines : tie.Need-slice-write-lines Inv-loop μ-loop
 slice-write-lines c = omega (arith, lines-length (c .before .before), few (c .before .before))
 
 fraction-in-requires : tie.Need-fraction-in-requires Inv-loop μ-loop
-fraction-in-requires c κs = (start (c .before .before) .pre .0, omega (arith, n-is (c .before .before)))
+fraction-in-requires c κs = (start (c .before .before) .pre .0 .0, omega (arith, n-is (c .before .before)))
 
 mul-fractions : tie.Need-mul-fractions Inv-loop μ-loop
 mul-fractions c = omega (arith, few (c .before .before .before))

@@ -5,7 +5,7 @@ use native.Mathlib.Omega.{arith}
 use borrow.Author.Needs.{needs}
 use lib.ListN.{length}
 use Rattle.records.specs.Format.{countIn, linesIn, fractionsIn}
-use Rattle.records.proofs.Heads.{Head, head}
+use Rattle.records.proofs.Heads.{Head, head, holds}
 use Rattle.records.proofs.Entries.{count-lines, count-fractions}
 use Rattle.records.proofs.Scans.{Noted, nothing-noted, zero-here, next-noted, all-noted}
 use Rattle.records.proofs.scan.fractions_refusal.Statement.{statement}
@@ -40,10 +40,10 @@ fractions-holds : tie.Need-fractions-holds Inv-fractions μ-fractions
 fractions-holds c = rw (c .no-entries .ensures) (nothing-noted _ _ (c .before .before .before .pre .1))
 
 fraction-in-requires : tie.Need-fraction-in-requires Inv-fractions μ-fractions
-fraction-in-requires c κs = (start (c .before) .pre .0, omega (arith, n-is (c .before)))
+fraction-in-requires c κs = (holds (headed (start (c .before))), omega (arith, n-is (c .before)))
 
 line-in-requires : tie.Need-line-in-requires Inv-fractions μ-fractions
-line-in-requires c κs = let at = c .before .before .before in (start at .pre .0, omega (arith, n-is at))
+line-in-requires c κs = let at = c .before .before .before in (holds (headed (start at)), omega (arith, n-is at))
 
 with-entry-requires : tie.Need-with-entry-requires Inv-fractions μ-fractions
 with-entry-requires c κs = let at = c .before .before .before .before in omega (arith, headed (start at) .entries .few, n-is at)

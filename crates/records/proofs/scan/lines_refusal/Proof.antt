@@ -5,7 +5,7 @@ use native.Mathlib.Omega.{arith}
 use borrow.Author.Needs.{needs}
 use lib.ListN.{length}
 use Rattle.records.specs.Format.{linesIn}
-use Rattle.records.proofs.Heads.{Head, head}
+use Rattle.records.proofs.Heads.{Head, head, holds}
 use Rattle.records.proofs.Entries.{count-lines}
 use Rattle.records.proofs.Scans.{Ascended, none-passed, breaks-here, next-passed, all-passed}
 use Rattle.records.proofs.scan.lines_refusal.Statement.{statement}
@@ -34,7 +34,7 @@ lines-holds : tie.Need-lines-holds Inv-lines μ-lines
 lines-holds c = none-passed _
 
 line-in-requires : tie.Need-line-in-requires Inv-lines μ-lines
-line-in-requires c κs = (start (c .before) .pre, omega (arith, c .before .before .count-in .ensures .0))
+line-in-requires c κs = (holds (headed (start (c .before))), omega (arith, c .before .before .count-in .ensures .0))
 
 lines-again : tie.Need-lines-again Inv-lines μ-lines
 lines-again c =

@@ -7,8 +7,8 @@ use borrow.Author.Needs.{needs}
 use Rattle.meter.specs.State.{Sound}
 use Rattle.meter.proofs.Kept.{analysis-keeps}
 use Rattle.time_meter.specs.Calls.{methaneAt, analysedTo}
-use Rattle.time_meter.proofs.analysed.Statement.{statement}
-use Rattle.time_meter.proofs.analysed.Tie as tie
+use Rattle.time_meter.proofs.with_analyses.Statement.{statement}
+use Rattle.time_meter.proofs.with_analyses.Tie as tie
 
 abbrev Inv-loop : tie.InvT-loop
 Inv-loop after₀ stream₀ after stream = (stream ≤ 16) × (after ≡ analysedTo stream after₀) × Sound after
@@ -31,8 +31,8 @@ loop-again c =
       analysis-keeps (l .after) (l .stream) (d .before .before .methane .result) _ _ (d .analysis .ensures) (l .inv .2),
     )
 
-pub analysed-spec : {M : Type 1} → statement M
-analysed-spec =
+pub with-analyses-spec : {M : Type 1} → statement M
+with-analyses-spec =
     tie.close
     (tie.spec
     Inv-loop μ-loop
