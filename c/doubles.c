@@ -1,5 +1,5 @@
 /* The six properties of a record in doubles, as one writes them by hand from ISO 6976:1995: no rounding, and of document 01's checks those
- * of the mark, the version, the length and the line numbers alone. rust/benches/ratio.rs times it beside the library. */
+ * of the mark, the version, the length and that a line is in the table alone. rust/benches/ratio.rs times it beside the library. */
 #include <math.h>
 #include <stddef.h>
 #include <stdint.h>

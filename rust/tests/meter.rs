@@ -13,8 +13,8 @@ use std::io::Write;
 use std::path::Path;
 use std::process::{Command, Stdio};
 
-/// The proved program and its source, which reduced clones leave out, relative to the package folder, and the bytes of calls that it
-/// reads at most.
+/// The proved program and its source, relative to the package folder, without which the comparison with it is left out, and the bytes of
+/// calls that it reads at most.
 const SOURCE: &str = "../crates/try_meter";
 const PROVED: &str = "../target/bin/try_meter";
 const INPUT: usize = 2_048;

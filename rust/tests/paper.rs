@@ -72,6 +72,25 @@ fn k3_to_k8_and_each_number() {
 }
 
 #[test]
+fn bytes_that_are_no_record() {
+    let mut later = K2.to_vec();
+    later[4] = 1;
+    for (bytes, refusal) in [
+        (vec![], Refusal::RECORD_SHORT),
+        (later, Refusal::VERSION_DIFFERS),
+        (
+            record(15, 15, &[(1, u32::MAX), (2, 1_000_001)]),
+            Refusal::SUM_OUTSIDE,
+        ),
+        (record(15, 15, &[(52, 1_000_000)]), Refusal::METHANE_LOW),
+    ] {
+        assert_eq!(loonstool::properties_of(&bytes), Err(refusal));
+        assert_eq!(loonstool::read(&bytes), Err(refusal));
+        assert_eq!(plain::properties_of(&bytes), Err(refusal.number()));
+    }
+}
+
+#[test]
 fn k10_line_23() {
     let (superior, inferior) = (TABLE[22][4], TABLE[22][5]);
     assert_eq!((superior, inferior), (2_700_200, 2_524_100));

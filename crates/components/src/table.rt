@@ -70,8 +70,8 @@ pub const TABLE: [[i32; 12]; 55] = [
     ROW_51, ROW_52, ROW_53, ROW_54, ROW_55,
 ];
 
-// The row of a line, counted from 1. `% 55` leaves no other case, so the compiler reads a column from a table of 55 numbers and tests
-// nothing.
+// The row of a line, counted from 1. `% 55` tells the compiler that no other number comes, so it tests nothing, and reads a column from 55
+// numbers in a row.
 pub fn row(line: u8) -> [i32; 12]
     requires { ⌜ (1 ≤ line) × (line ≤ 55) ⌝ }
     ensures { λ r. ⌜ r ≡ rowOf line ⌝ }

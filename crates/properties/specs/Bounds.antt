@@ -1,4 +1,5 @@
--- Bounds of the numbers of each step. Those of an accepted record follow from the bounds of its sums (components/specs/Bounds.antt).
+-- Bounds of the numbers of each step. Those of an accepted record, `..Low` and `..High`, follow from the bounds of its sums
+-- (components/specs/Bounds.antt); `..Bound` in Quantities.antt is a ceiling.
 use Prim.Native.Nat.{ℕ, _*_}
 
 -- Hm, M and an ideal value that a step takes, of any gas, so that its products fit 64 bits

@@ -26,7 +26,8 @@ pub fn for_metering(at_0: u64, at_15: u64, at_20: u64, metering: u8) -> u64
     at_20
 }
 
-// The whole number nearest to n / D, from the metering temperature in °C. Where D is known, its division is a multiplication.
+// The whole number nearest to n / D, from the metering temperature in °C. Each D has a division of its own: the compiler turns a division
+// by a constant into a multiplication.
 fn nearest_over_d(n: u64, metering: u8) -> u64
     ensures { λ r. ⌜ r ≡ near n (divisor (temperature metering)) ⌝ }
 {

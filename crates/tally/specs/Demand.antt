@@ -57,7 +57,7 @@ pub data SameInForce : InForce → Option (List ℕ) → Type 0 where
   known : (bs : List ℕ) (gas : Gas) → gas .combustion ≡ combustionIn bs → gas .metering ≡ meteringIn bs →
       accepted (numbers (gas .properties)) ≡ propertiesOf bs → SameInForce (Known gas) (some bs)
 
--- what is booked is within 2 of its unit per dm³ of V from what is exact: of energy 2 mJ per dm³
+-- what is booked is within 2 units per dm³ of V from what is exact: of energy 2 mJ per dm³
 abbrev pub AccountWithin : ℕ → Account → Type 0
 AccountWithin v a = Within (whole (2 * v)) (a .booked) (a .exact)
 
