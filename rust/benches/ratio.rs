@@ -23,13 +23,25 @@ const WARM_UP: Duration = Duration::from_millis(200);
 /// A side under test.
 type Side<'a> = &'a dyn Fn(&[u8]);
 
-/// Library, plain Rust and C. Each is one call: the archive's functions are not inlined, and plain Rust is called through a pointer that
-/// the compiler does not know.
+/// Library, plain Rust and C. Each is one call, whose six numbers are used one by one: the archive's functions are not inlined, and plain
+/// Rust is called through a pointer that the compiler does not know.
 const SIDES: [Side; 3] = [
-    &|record| _ = black_box(loonstool::properties_of(record)),
-    &|record| _ = black_box(through(plain::properties_of)(record)),
-    &|record| _ = black_box(in_doubles(record)),
+    &|record| used(loonstool::properties_of(record).map_err(Refusal::number)),
+    &|record| used(through(plain::properties_of)(record)),
+    &|record| {
+        in_doubles(record)
+            .iter()
+            .flatten()
+            .for_each(|n| _ = black_box(*n))
+    },
 ];
+
+fn used(answer: Result<Properties, u8>) {
+    match answer {
+        Ok(p) => plain::six(&p).iter().for_each(|n| _ = black_box(*n)),
+        Err(number) => _ = black_box(number),
+    }
+}
 
 fn through<T>(side: fn(&[u8]) -> T) -> fn(&[u8]) -> T {
     black_box(side)
