@@ -39,7 +39,7 @@ added t gas v =
       superior = booked perMJ (t .superior) (v * gas .properties .hs .value);
     }
 
--- a stream with that, by the analysis in force; with none, 16 has refused the call
+-- a stream with v dm³ more, by the analysis in force; with none, 16 has refused the call
 abbrev pub withVolume : InForce → ℕ → Stream → Stream
 withVolume Nothing v s = s
 withVolume (Known gas) v s = record { analysis = s .analysis; totals = added (s .totals) gas v }

@@ -26,10 +26,11 @@ mostTotal = 999999999999
 abbrev pub perMJ : ℕ
 perMJ = 1000000000
 
--- no analysis, volume 0, energy 0
+-- a register at first
 abbrev pub nothingBooked : Register
 nothingBooked = record { whole = 0; rest = 0 }
 
+-- no analysis, volume 0, energy 0
 abbrev pub freshStream : Stream
 freshStream = record { analysis = Nothing; totals = record { volume = 0; superior = nothingBooked } }
 

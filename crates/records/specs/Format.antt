@@ -43,6 +43,7 @@ number2 bs at = getD bs at 0 + 256 * getD bs (at + 1) 0
 abbrev pub number4 : List ℕ → ℕ → ℕ
 number4 bs at = getD bs at 0 + 256 * getD bs (at + 1) 0 + 65536 * getD bs (at + 2) 0 + 16777216 * getD bs (at + 3) 0
 
+-- the mark stands in bytes 0 to 2; the version in bytes 3 and 4
 abbrev pub hasMark : List ℕ → Bool
 hasMark bs = eqb (getD bs 0 0) (getD mark 0 0) && eqb (getD bs 1 0) (getD mark 1 0) && eqb (getD bs 2 0) (getD mark 2 0)
 

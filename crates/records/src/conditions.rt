@@ -1,4 +1,5 @@
-// The conditions of refusal but 7, 8 and 11, which need a search, each with document 01's number, and their orders. 0 stands for none.
+// The conditions of a record, of an entry and of the writer's lists that need no search, each with document 01's number, and their orders.
+// 0 stands for none.
 ghost use mathlib.Core.Path.{_≡_};
 ghost use Rattle.records.specs.Order.{firstOf};
 ghost use Rattle.records.specs.Conditions.{permitted, limitOf, countOutside, sumOutside, methaneLow, aboveLimit, waterHigh};
