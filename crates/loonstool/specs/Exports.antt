@@ -1,24 +1,14 @@
--- What an exported function gives: a number, and what stands in the memory that the caller lent.
+-- What the exported functions give, beside a number: what stands in the memory that the caller lent.
 use mathlib.Core.Path.{_≡_}
 use mathlib.Core.List.{List, [], _∷_}
 use Prim.Native.Nat.{ℕ}
 use Rattle.records.specs.declared.Analysis.{Analysis}
-use Rattle.records.specs.Order.{Outcome, refused, accepted, otherwise}
+use Rattle.records.specs.Order.{Outcome, refused}
 use Rattle.records.specs.Format.{Contents}
 use Rattle.records.specs.Calls.{readingOf, writingOf}
 use Rattle.properties.specs.Chain.{Six, propertiesOf}
 
 module _ {A : Type 0} where
-  -- document 01's number of a refusal, 0 where the call is accepted
-  abbrev pub numberOf : Outcome A → ℕ
-  numberOf (refused n) = n
-  numberOf (accepted a) = 0
-
-  -- the number is that of the outcome, and the lent memory holds the answer or, after a refusal, what it held before
-  pub record Returns (outcome : Outcome A) (before : A) (number : ℕ) (after : A) : Type 0 where
-    pub number-is : number ≡ numberOf outcome
-    pub after-is : after ≡ otherwise before outcome
-
   -- 0 stands for no refusal
   abbrev pub NeverRefusedByZero : Outcome A → Type 0
   NeverRefusedByZero outcome = outcome ≡ refused 0 → ⊥

@@ -13,6 +13,7 @@ use Rattle.records.specs.Order.{accepted, firstOf, decided}
 use Rattle.records.specs.Format.{contentsIn}
 use Rattle.records.specs.Answers.{Gives}
 use Rattle.records.proofs.OrderLaws.{unmet, decided-accepted}
+use Rattle.records.proofs.RoundTrips.{accepted-head}
 use Rattle.records.proofs.Accepted.{acceptable}
 use Rattle.properties.specs.Quantities.{calorificBound}
 use Rattle.properties.proofs.Gas.{bounded}
@@ -21,7 +22,7 @@ use Rattle.meter.specs.declared.InForce.the-variants.{Nothing, Known}
 use Rattle.meter.specs.declared.Register.{Register}
 use Rattle.meter.specs.declared.Stream.{Stream}
 use Rattle.meter.specs.declared.Meter.{Meter}
-use Rattle.meter.specs.State.{lastStream, mostTotal, SoundRegister, SoundTotals, SoundAnalysis, SoundStream, Sound, freshStream, streamAt, withStream, perMJ}
+use Rattle.meter.specs.State.{lastStream, mostTotal, SoundRegister, SoundTotals, SoundGas, SoundAnalysis, SoundStream, Sound, freshStream, streamAt, withStream, perMJ}
 use Rattle.meter.specs.Conditions.{analysisOrder, meteringOrder, meanOrder}
 use Rattle.meter.specs.Calls.{analysed, withVolume, metered, meanIn, meanReading}
 use Rattle.meter.specs.Kept.{FreshIsSound, AnalysisKeeps, MeteringKeeps, AnalysisLeavesOthers, MeteringLeavesOthers, ZeroIsAccepted, NoMeanAboveCeiling}
@@ -31,7 +32,10 @@ use Rattle.meter.proofs.Streams.{at-made, at-put}
 use Rattle.meter.proofs.Means.{mean-bounded}
 
 pub fresh-is-sound : FreshIsSound
-fresh-is-sound = record { count = refl; each = λ k b. rw (at-made freshStream 16 k) (omega arith) }
+fresh-is-sound = record { count = refl; each = λ k b. rw (at-made freshStream 16 k) fresh }
+  where
+    fresh : SoundStream freshStream
+    fresh = record { analysis = refl; totals = omega arith }
 
 -- one stream is replaced by a sound one
 with-sound : (m : Meter) (k : ℕ) (s : Stream) → Sound m → SoundStream s → Sound (withStream m k s)
@@ -57,21 +61,22 @@ analysis-keeps m k bs v after gives h =
     (λ z.
     let c = clear-analysis k bs s z in
     let old = h .each k (c .stream) in
-    record { analysis = bounded (contentsIn bs) (acceptable bs (c .clear)); totals = old .totals })
+    record { analysis = record { pair = accepted-head bs (c .clear) .pair; bounded = bounded (contentsIn bs) (acceptable bs (c .clear)) }; totals = old .totals })
   where
     s : Stream
     s = streamAt m k
 
-sound-metered : (s : Stream) (w : ℕ) (a : InForce) → SoundStream s → SoundAnalysis a → s .totals .volume + w ≤ mostTotal → SoundStream (withVolume a w s)
-sound-metered s w Nothing old b total = old
-sound-metered s w (Known gas) old b total =
+sound-metered : (s : Stream) (w : ℕ) (a : InForce) → s .analysis ≡ a → SoundStream s → s .totals .volume + w ≤ mostTotal → SoundStream (withVolume a w s)
+sound-metered s w Nothing is old total = old
+sound-metered s w (Known gas) is old total =
     let t = s .totals in
+    let b : SoundGas gas = subst (λ (a : InForce). SoundAnalysis a t) is (old .analysis) in
     let booked = sound-booked perMJ (omega arith) calorificBound (t .volume) w in
     record {
-      analysis = old .analysis;
+      analysis = rw is b;
       totals = record {
         volume = total;
-        superior = booked _ (t .superior) (old .totals .superior) (mul-le-mul-left w (b .Hs));
+        superior = booked _ (t .superior) (old .totals .superior) (mul-le-mul-left w (b .bounded .Hs));
       };
     }
 
@@ -81,7 +86,7 @@ metering-keeps m k w v after gives h =
     (λ z.
     let c = clear-metering k w s z in
     let old = h .each k (c .stream) in
-    sound-metered s w (s .analysis) old (old .analysis) (c .total))
+    sound-metered s w (s .analysis) refl old (c .total))
   where
     s : Stream
     s = streamAt m k

@@ -4,6 +4,7 @@ use Prim.Native.Nat.{ℕ, _+_, _*_, _/_, _%_}
 use Rattle.rounding.specs.Near.{near}
 use Rattle.records.specs.Order.{Outcome, firstOf, decided, otherwise}
 use Rattle.records.specs.Format.{combustionIn, meteringIn, contentsIn}
+use Rattle.properties.specs.declared.Properties.{Properties}
 use Rattle.properties.specs.Chain.{sixOf}
 use Rattle.properties.specs.Answers.{quantities}
 use Rattle.meter.specs.declared.Gas.{Gas}
@@ -32,17 +33,17 @@ abbrev pub booked : ℕ → Register → ℕ → Register
 booked u e n = record { whole = (amountIn u e + n) / u; rest = (amountIn u e + n) % u }
 
 -- totals with v dm³ more, and v × Hs mJ more
-abbrev pub added : StreamTotals → Gas → ℕ → StreamTotals
-added t gas v =
+abbrev pub added : StreamTotals → Properties → ℕ → StreamTotals
+added t p v =
     record {
       volume = t .volume + v;
-      superior = booked perMJ (t .superior) (v * gas .properties .hs .value);
+      superior = booked perMJ (t .superior) (v * p .hs .value);
     }
 
 -- a stream with v dm³ more, by the analysis in force; with none, 16 has refused the call
 abbrev pub withVolume : InForce → ℕ → Stream → Stream
 withVolume Nothing v s = s
-withVolume (Known gas) v s = record { analysis = s .analysis; totals = added (s .totals) gas v }
+withVolume (Known gas) v s = record { analysis = s .analysis; totals = added (s .totals) (gas .properties) v }
 
 abbrev pub metered : Stream → ℕ → Stream
 metered s v = withVolume (s .analysis) v s

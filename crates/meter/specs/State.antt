@@ -1,9 +1,12 @@
 -- The meter of document 01 as made, and what holds of every meter.
 use mathlib.Core.Path.{_≡_}
+use mathlib.Core.Bool.{true}
 use Prim.Native.Nat.{ℕ, _+_, _*_, _≤_, _<_}
 use lib.ListN.{length, getD, set, replicate}
+use Rattle.records.specs.Conditions.{permitted}
 use Rattle.properties.specs.Quantities.{calorificBound, Bounded}
 use Rattle.properties.specs.Answers.{numbers}
+use Rattle.meter.specs.declared.Gas.{Gas}
 use Rattle.meter.specs.declared.InForce.{InForce}
 use Rattle.meter.specs.declared.InForce.the-variants.{Nothing, Known}
 use Rattle.meter.specs.declared.Register.{Register}
@@ -31,8 +34,11 @@ abbrev pub nothingBooked : Register
 nothingBooked = record { whole = 0; rest = 0 }
 
 -- no analysis, volume 0, energy 0
+abbrev pub freshTotals : StreamTotals
+freshTotals = record { volume = 0; superior = nothingBooked }
+
 abbrev pub freshStream : Stream
-freshStream = record { analysis = Nothing; totals = record { volume = 0; superior = nothingBooked } }
+freshStream = record { analysis = Nothing; totals = freshTotals }
 
 -- 16 streams, 0 to 15
 abbrev pub freshMeter : Meter
@@ -60,14 +66,19 @@ pub record SoundTotals (t : StreamTotals) : Type 0 where
   pub volume : t .volume ≤ mostTotal
   pub superior : SoundRegister perMJ calorificBound (t .volume) (t .superior)
 
--- what holds of every analysis in force: no property passes its ceiling
-abbrev pub SoundAnalysis : InForce → Type 0
-SoundAnalysis Nothing = Unit
-SoundAnalysis (Known gas) = Bounded (numbers (gas .properties))
+-- what holds of every gas in force: the pair is permitted, and no property passes its ceiling
+pub record SoundGas (gas : Gas) : Type 0 where
+  pub pair : permitted (gas .combustion) (gas .metering) ≡ true
+  pub bounded : Bounded (numbers (gas .properties))
+
+-- what holds of a stream's totals beside its analysis: with none, they are as made
+abbrev pub SoundAnalysis : InForce → StreamTotals → Type 0
+SoundAnalysis Nothing t = t ≡ freshTotals
+SoundAnalysis (Known gas) t = SoundGas gas
 
 -- what holds of every stream
 pub record SoundStream (s : Stream) : Type 0 where
-  pub analysis : SoundAnalysis (s .analysis)
+  pub analysis : SoundAnalysis (s .analysis) (s .totals)
   pub totals : SoundTotals (s .totals)
 
 -- what holds of every meter, as made or as its calls left it

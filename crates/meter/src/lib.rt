@@ -17,13 +17,13 @@ ghost use Rattle.meter.specs.Calls.{withGas, booked, added, metered, ana
 ghost use Rattle.meter.specs.Answers.{totalsMeaning, meanMeaning};
 
 // The last stream.
-const LAST_STREAM: usize = 15;
+pub const LAST_STREAM: usize = 15;
 // The most that one metering call adds, in dm³.
-const MOST_VOLUME: u64 = 10000000;
+pub const MOST_VOLUME: u64 = 10000000;
 // The most that a volume total comes to, in dm³.
-const MOST_TOTAL: u64 = 999999999999;
+pub const MOST_TOTAL: u64 = 999999999999;
 // mJ in 1 MJ.
-const PER_MJ: u64 = 1000000000;
+pub const PER_MJ: u64 = 1000000000;
 
 // The properties of an accepted record, and its pair of temperatures in °C.
 pub struct Gas {
@@ -106,7 +106,7 @@ fn pair_differs(earlier: InForce, combustion: u8, metering: u8) -> bool
 }
 
 // 14 where it holds, 0 where not.
-fn pair_refusal(fourteen: bool) -> u8
+pub fn pair_refusal(fourteen: bool) -> u8
     ensures { λ r. ⌜ r ≡ firstOf (pairOrder fourteen) ⌝ }
 {
     if fourteen {
@@ -186,7 +186,7 @@ fn volume_refusal(fifteen: bool, sixteen: bool, seventeen: bool) -> u8
 }
 
 // The register with volume × value more, in units of its rest, `unit` of which make one whole.
-fn booked(before: Register, unit: u64, volume: u64, value: u64) -> Register
+pub fn booked(before: Register, unit: u64, volume: u64, value: u64) -> Register
     requires { ⌜ (before .rest < unit) × (unit < 2 ^ 62) × (before .whole < 2 ^ 63) ⌝ }
     requires { ⌜ (volume ≤ mostVolume) × (value < 2 ^ 32) ⌝ }
     ensures { λ r. ⌜ r ≡ booked unit before (volume * value) ⌝ }
@@ -200,12 +200,12 @@ fn booked(before: Register, unit: u64, volume: u64, value: u64) -> Register
 }
 
 // The totals with the volume, and volume × Hs in mJ, added.
-fn added(before: StreamTotals, gas: Gas, volume: u64) -> StreamTotals
-    requires { ⌜ SoundTotals before × Bounded (numbers (gas .properties)) ⌝ }
+pub fn added(before: StreamTotals, properties: Properties, volume: u64) -> StreamTotals
+    requires { ⌜ SoundTotals before × Bounded (numbers properties) ⌝ }
     requires { ⌜ (volume ≤ mostVolume) × (before .volume + volume ≤ mostTotal) ⌝ }
-    ensures { λ r. ⌜ r ≡ added before gas volume ⌝ }
+    ensures { λ r. ⌜ r ≡ added before properties volume ⌝ }
 {
-    let superior = booked(before.superior, PER_MJ, volume, gas.properties.hs.value());
+    let superior = booked(before.superior, PER_MJ, volume, properties.hs.value());
     StreamTotals {
         volume: before.volume + volume,
         superior,
@@ -224,7 +224,7 @@ fn metered(before: Stream, volume: u64) -> Stream
         InForce::Nothing => before,
         InForce::Known(gas) => Stream {
             analysis,
-            totals: added(totals, gas, volume),
+            totals: added(totals, gas.properties, volume),
         },
     }
 }
@@ -263,7 +263,7 @@ pub fn totals(meter: Meter, stream: usize) -> TotalsAnswer
 }
 
 // The mean calorific value of an energy over a volume, in J/m³, or 18.
-fn mean_over(energy: Register, volume: u64) -> MeanAnswer
+pub fn mean_over(energy: Register, volume: u64) -> MeanAnswer
     requires { ⌜ SoundRegister perMJ calorificBound volume energy × (volume ≤ mostTotal) ⌝ }
     ensures { λ r. ⌜ meanMeaning r ≡ decided (firstOf (zeroOrder (totalZero volume))) (meanIn energy volume) ⌝ }
 {

@@ -1,4 +1,5 @@
 pub mod OrderLaws
+pub mod Returned
 mod Placing
 pub mod Heads
 pub mod RoundTrips

@@ -23,6 +23,17 @@ module _ {A : Type 0} where
     pub means : meaning verdict value ≡ outcome
     pub stands : value ≡ otherwise other outcome
 
+  -- document 01's number of a refusal, 0 where the call is accepted
+  abbrev pub numberOf : Outcome A → ℕ
+  numberOf (refused n) = n
+  numberOf (accepted a) = 0
+
+  -- A number and lent memory return an outcome: the number is the outcome's, and the memory holds the answer or, after a refusal, what
+  -- it held before.
+  pub record Returns (outcome : Outcome A) (before : A) (number : ℕ) (after : A) : Type 0 where
+    pub number-is : number ≡ numberOf outcome
+    pub after-is : after ≡ otherwise before outcome
+
 -- the verdict of a number: accepted where it is 0
 abbrev pub verdictOf : ℕ → Verdict
 verdictOf zero = Accepted

@@ -10,6 +10,7 @@ mod conditions;
 mod format;
 mod scan;
 
+pub use conditions::pair_permitted;
 pub use format::combustion_in;
 pub use format::count_in;
 pub use format::fraction_in;

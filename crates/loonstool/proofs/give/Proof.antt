@@ -4,7 +4,7 @@ use Rattle.records.specs.Order.{mapped}
 use Rattle.properties.specs.declared.Answer.{Answer}
 use Rattle.properties.specs.Answers.{meaning}
 use Rattle.loonstool.specs.Exports.{inOrder}
-use Rattle.loonstool.proofs.Outcomes.{refusal, acceptance}
+use Rattle.records.proofs.Returned.{refusal, acceptance}
 use borrow.Author.Needs.{needs}
 use Rattle.loonstool.proofs.give.Statement.{statement}
 use Rattle.loonstool.proofs.give.Tie as tie

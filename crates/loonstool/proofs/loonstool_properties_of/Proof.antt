@@ -3,7 +3,7 @@ use mathlib.Core.Path.{ap}
 use borrow.Author.Needs.{needs}
 use Rattle.records.specs.Order.{mapped}
 use Rattle.loonstool.specs.Exports.{inOrder}
-use Rattle.loonstool.proofs.Outcomes.{alike}
+use Rattle.records.proofs.Returned.{alike}
 use Rattle.loonstool.proofs.loonstool_properties_of.Statement.{statement}
 use Rattle.loonstool.proofs.loonstool_properties_of.Tie as tie
 

@@ -2,7 +2,7 @@
 use mathlib.Core.Path.{refl, sym, ap, _∙_}
 use Rattle.records.specs.declared.Verdict.{Verdict}
 use Rattle.records.specs.Answers.{meaning}
-use Rattle.loonstool.proofs.Outcomes.{refusal, acceptance}
+use Rattle.records.proofs.Returned.{refusal, acceptance}
 use borrow.Author.Needs.{needs}
 use Rattle.loonstool.proofs.loonstool_read.Statement.{statement}
 use Rattle.loonstool.proofs.loonstool_read.Tie as tie

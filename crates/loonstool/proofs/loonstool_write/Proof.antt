@@ -1,6 +1,6 @@
 -- The number of a refusal with the buffer as it was, or the written record.
 use mathlib.Core.Path.{refl}
-use Rattle.loonstool.proofs.Outcomes.{gave-refusal, gave-acceptance}
+use Rattle.records.proofs.Returned.{gave-refusal, gave-acceptance}
 use borrow.Author.Needs.{needs}
 use Rattle.loonstool.proofs.loonstool_write.Statement.{statement}
 use Rattle.loonstool.proofs.loonstool_write.Tie as tie

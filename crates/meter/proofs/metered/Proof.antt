@@ -1,14 +1,17 @@
 -- By the analysis in force, where there is one.
 use mathlib.Core.Path.{subst}
 use borrow.Author.Needs.{needs}
+use Rattle.meter.specs.declared.InForce.{InForce}
 use Rattle.meter.specs.State.{SoundAnalysis}
 use Rattle.meter.proofs.metered.Statement.{statement}
 use Rattle.meter.proofs.metered.Tie as tie
 
 added-requires : tie.Need-added-requires
 added-requires c κs =
-    let p = c .before .before .before .before .pre in
-    ((p .0 .totals, subst SoundAnalysis (c .before .analysis .given .1) (p .0 .analysis)), p .1)
+    let s = c .before .before .before .before in
+    let p = s .pre in
+    let gas = subst (λ (a : InForce). SoundAnalysis a (s .args .before .totals)) (c .before .analysis .given .1) (p .0 .analysis) in
+    ((p .0 .totals, gas .bounded), p .1)
 
 returns-2 : tie.Need-returns-2
 returns-2 c = rw (c .before .before .analysis .given .1, c .added .ensures)

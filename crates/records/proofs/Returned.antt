@@ -1,16 +1,10 @@
--- What an exported function gives, from the answer of the call behind it.
-use mathlib.Core.Path.{_≡_, refl, sym, ap, _∙_}
+-- What a number and lent memory return, from the answer of a call.
+use mathlib.Core.Path.{_≡_, sym, ap, _∙_}
 use Prim.Native.Nat.{ℕ}
-use lib.ListN.{length}
-use Rattle.records.specs.Order.{Outcome, firstOf, refused, accepted, otherwise}
+use Rattle.records.specs.Order.{Outcome, refused, accepted, otherwise}
 use Rattle.records.specs.declared.Verdict.{Verdict}
 use Rattle.records.specs.declared.Verdict.the-variants.{Accepted, Refused}
-use Rattle.records.specs.Answers.{Gives, meaning}
-use Rattle.records.specs.Format.{contentsIn, bytesOf, placed}
-use Rattle.records.specs.Conditions.{recordOrder, writerOrder}
-use Rattle.records.proofs.OrderLaws.{decided-refused}
-use Rattle.properties.proofs.Outcomes.{number-of-refused}
-use Rattle.loonstool.specs.Exports.{numberOf, Returns, ZeroSaysAccepted}
+use Rattle.records.specs.Answers.{Gives, meaning, numberOf, Returns}
 
 module _ {A : Type 0} {outcome : Outcome A} (before : A) {number : ℕ} {after : A} where
   pub refusal : {n : ℕ} → refused n ≡ outcome → number ≡ n → after ≡ before → Returns outcome before number after
@@ -33,11 +27,3 @@ module _ {A : Type 0} {outcome : Outcome A} {before after : A} {v : Verdict} (g 
 
   pub gave-acceptance : v ≡ Accepted → number ≡ 0 → Returns outcome before number after
   gave-acceptance e z = gave (z ∙ ap (λ (w : Verdict). numberOf (meaning w after)) (sym e))
-
-pub zero-says-accepted : ZeroSaysAccepted
-zero-says-accepted =
-    record {
-      properties = λ bs e. number-of-refused bs 0 (sym e) .1 refl;
-      reading = λ bs e. decided-refused (firstOf (recordOrder bs)) (contentsIn bs) 0 e .1 refl;
-      writing = λ k old e. decided-refused (firstOf (writerOrder k (length old))) (placed old 0 (bytesOf k)) 0 e .1 refl;
-    }
