@@ -7,6 +7,8 @@ use Rattle.records.specs.Order.{Outcome, refused}
 use Rattle.records.specs.Format.{Contents}
 use Rattle.records.specs.Calls.{readingOf, writingOf}
 use Rattle.properties.specs.Chain.{Six, propertiesOf}
+use Rattle.meter.specs.declared.Meter.{Meter}
+use Rattle.meter.specs.Calls.{analysisOf, meteringOf, totalsOf, meanOf}
 
 module _ {A : Type 0} where
   -- 0 stands for no refusal
@@ -18,6 +20,10 @@ pub record ZeroSaysAccepted : Type 0 where
   pub properties : (bs : List ℕ) → NeverRefusedByZero (propertiesOf bs)
   pub reading : (bs : List ℕ) → NeverRefusedByZero (readingOf bs)
   pub writing : (k : Contents) (old : List ℕ) → NeverRefusedByZero (writingOf k old)
+  pub analysis : (m : Meter) (k : ℕ) (bs : List ℕ) → NeverRefusedByZero (analysisOf m k bs)
+  pub metering : (m : Meter) (k v : ℕ) → NeverRefusedByZero (meteringOf m k v)
+  pub totals : (m : Meter) (k : ℕ) → NeverRefusedByZero (totalsOf m k)
+  pub mean : (m : Meter) (k : ℕ) → NeverRefusedByZero (meanOf m k)
 
 -- the properties in document 01's order
 abbrev pub inOrder : Six → List ℕ

@@ -1,6 +1,6 @@
-// The library for firmware in C and Rust: the properties of a record, and records read and written. include/loonstool.h declares its
-// functions for C, rust/ wraps them for Rust. Each gives 0 where the call is accepted, or document 01's number; a refusal leaves what the
-// caller lent as it was.
+// The library for firmware in C and Rust: the meter in words that the caller lends, the properties of a record, and records read and
+// written. include/loonstool.h declares its functions for C, rust/ wraps them for Rust. Each call gives 0 where it is accepted, or document
+// 01's number; a refusal leaves what the caller lent as it was.
 ghost use mathlib.Core.Path.{_≡_};
 ghost use Rattle.records.specs.Order.{mapped};
 ghost use Rattle.records.specs.Format.{contents};
@@ -8,10 +8,68 @@ ghost use Rattle.records.specs.Calls.{readingOf, writingOf};
 ghost use Rattle.records.specs.Answers.{held, Returns};
 ghost use Rattle.properties.specs.Chain.{propertiesOf};
 ghost use Rattle.properties.specs.Answers.{numbers, meaning};
+ghost use Prim.Native.Nat.{ℕ};
+ghost use Rattle.meter.specs.declared.Meter.{Meter};
+ghost use Rattle.meter.specs.State.{freshMeter};
+ghost use Rattle.meter.specs.Calls.{analysisOf, meteringOf, totalsOf, meanOf};
+ghost use Rattle.lent_meter.specs.Words.{packed, packedTotals};
+ghost use Rattle.lent_meter.specs.Lent.{Lent, OnWords, Reads};
+ghost use Rattle.lent_meter.specs.Check.{Tells};
 ghost use Rattle.loonstool.specs.Exports.{inOrder, analysis};
+use lent_meter::Words;
 use properties::Answer;
 use properties::Properties;
 use records::Verdict;
+
+// A meter as made.
+#[no_mangle]
+pub extern "C" fn loonstool_meter_fresh(meter: &mut Words)
+    ensures { λ _. ⌜ now (meter .exit) ≡ packed freshMeter ⌝ }
+{
+    lent_meter::fresh(meter);
+}
+
+// Whether words hold a meter.
+#[no_mangle]
+pub extern "C" fn loonstool_meter_check(meter: &Words) -> bool
+    ensures { λ r. ⌜ Tells r (Lent (now (meter .entry))) ⌝ }
+{
+    lent_meter::check(meter)
+}
+
+// The properties of a record come into force on a stream.
+#[no_mangle]
+pub extern "C" fn loonstool_meter_analysis(meter: &mut Words, stream: usize, bytes: &[u8]) -> u8
+    ensures { λ r. ⌜ OnWords (λ (m : Meter). analysisOf m stream (now (bytes .entry))) (now (meter .entry)) r (now (meter .exit)) ⌝ }
+{
+    lent_meter::analysis(meter, stream, bytes)
+}
+
+// A stream takes a volume, in dm³.
+#[no_mangle]
+pub extern "C" fn loonstool_meter_metering(meter: &mut Words, stream: usize, volume: u64) -> u8
+    requires { ⌜ Lent (now meter) ⌝ }
+    ensures { λ r. ⌜ OnWords (λ (m : Meter). meteringOf m stream volume) (now (meter .entry)) r (now (meter .exit)) ⌝ }
+{
+    lent_meter::metering(meter, stream, volume)
+}
+
+// The volume and the energy of a stream.
+#[no_mangle]
+pub extern "C" fn loonstool_meter_totals(meter: &Words, stream: usize, totals: &mut [u64; 3]) -> u8
+    ensures { λ r. ⌜ Reads packedTotals (λ (m : Meter). totalsOf m stream) (now (meter .entry)) (now (totals .entry)) r (now (totals .exit)) ⌝ }
+{
+    lent_meter::totals(meter, stream, totals)
+}
+
+// The mean calorific value of what a stream has taken, in J/m³.
+#[no_mangle]
+pub extern "C" fn loonstool_meter_mean(meter: &Words, stream: usize, mean: &mut u64) -> u8
+    requires { ⌜ Lent (now meter) ⌝ }
+    ensures { λ r. ⌜ Reads (λ (h : ℕ). h) (λ (m : Meter). meanOf m stream) (now (meter .entry)) (now (mean .entry)) r (now (mean .exit)) ⌝ }
+{
+    lent_meter::mean(meter, stream, mean)
+}
 
 // The numbers of the properties, in document 01's order.
 fn in_order(p: Properties) -> [u64; 6]

@@ -31,11 +31,11 @@ use Rattle.meter.proofs.Registers.{sound-booked}
 use Rattle.meter.proofs.Streams.{at-made, at-put}
 use Rattle.meter.proofs.Means.{mean-bounded}
 
+pub fresh-stream-is-sound : SoundStream freshStream
+fresh-stream-is-sound = record { analysis = refl; totals = omega arith }
+
 pub fresh-is-sound : FreshIsSound
-fresh-is-sound = record { count = refl; each = λ k b. rw (at-made freshStream 16 k) fresh }
-  where
-    fresh : SoundStream freshStream
-    fresh = record { analysis = refl; totals = omega arith }
+fresh-is-sound = record { count = refl; each = λ k b. rw (at-made freshStream 16 k) fresh-stream-is-sound }
 
 -- one stream is replaced by a sound one
 with-sound : (m : Meter) (k : ℕ) (s : Stream) → Sound m → SoundStream s → Sound (withStream m k s)

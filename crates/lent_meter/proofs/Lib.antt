@@ -1,0 +1,4 @@
+mod Outcomes
+mod Rows
+mod Telling
+pub mod Kept

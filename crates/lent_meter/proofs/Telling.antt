@@ -1,0 +1,261 @@
+-- What tells that a row holds a stream, and that words hold a meter.
+use mathlib.Core.Path.{_≡_, refl, sym, ap, subst, _∙_}
+use mathlib.Core.Bool.{Bool, true, false, _&&_, _||_, true≢false}
+use mathlib.Core.List.{List, [], _∷_, map}
+use Prim.Native.Nat.{ℕ, zero, suc, _+_, _*_, _/_, _%_, _^_, _≤_, _<_}
+use native.Mathlib.Nat.{mul-le-mul-right, div-add-mod', mod-lt, not-suc-le-zero, le-of-suc-le-suc}
+use native.Mathlib.Omega.{arith}
+use borrow.Author.Tests.{eqb-true, eqb-false, ne-eqb, ltb-true, ltb-false, leb-true, leb-false, le-leb}
+use lib.Dec.{eqb, leb, ltb}
+use lib.ListN.{length, getD, drop, replicate, drop-of-length-le}
+use lib.Seq.{drop-cons}
+use Rattle.records.specs.Conditions.{permitted}
+use Rattle.records.proofs.OrderLaws.{both}
+use Rattle.properties.specs.Chain.{Six}
+use Rattle.properties.specs.Quantities.{calorificBound, Bounded}
+use Rattle.meter.specs.declared.InForce.{InForce}
+use Rattle.meter.specs.declared.InForce.the-variants.{Nothing, Known}
+use Rattle.meter.specs.declared.Register.{Register}
+use Rattle.meter.specs.declared.StreamTotals.{StreamTotals}
+use Rattle.meter.specs.declared.Stream.{Stream}
+use Rattle.meter.specs.State.{mostTotal, perMJ, nothingBooked, freshStream, amountIn, SoundRegister, SoundTotals, SoundAnalysis, SoundStream}
+use Rattle.meter.specs.Calls.{booked}
+use Rattle.meter.proofs.Registers.{amount-booked}
+use Rattle.meter.proofs.Kept.{fresh-stream-is-sound}
+use Rattle.lent_meter.specs.Words.{packedTotals, analysisWords, packedStream, sixIn, gasIn, totalsIn}
+use Rattle.lent_meter.specs.Lent.{LentRow, EachLent, Lent}
+use Rattle.lent_meter.proofs.Outcomes.{lent-row}
+use Rattle.lent_meter.specs.Check.{Tells, RegisterUnit, belowCeilings, atMost}
+
+-- what is told by true, and by false
+pub tells-true : {P : Type 0} → P → Tells true P
+tells-true p = record { yes = λ e. p; no = λ q. refl }
+
+pub tells-false : {P : Type 0} → (P → ⊥) → Tells false P
+tells-false h = record { yes = λ e. elim (true≢false (sym e)) [ ]; no = λ q. elim (h q) [ ] }
+
+pub untold : {P : Type 0} {b : Bool} → Tells b P → b ≡ false → P → ⊥
+untold t e p = true≢false (sym (t .no p) ∙ e)
+
+-- from each below i, and the one at i
+pub one-more : {P : ℕ → Type 0} (i : ℕ) → ((j : ℕ) → j < i → P j) → P i → (j : ℕ) → j < i + 1 → P j
+one-more {P} i before at j h = go (eqb j i) refl
+  where
+    go : (b : Bool) → eqb j i ≡ b → P j
+    go true e = subst P (sym (eqb-true j i e)) at
+    go false e = before j (omega (arith, eqb-false j i e, h))
+
+-- a number above 255 is in no permitted pair
+and-false : (x : Bool) → (x && false) ≡ false
+and-false true = refl
+and-false false = refl
+
+pub large-combustion : (c m : ℕ) → 255 < c → false ≡ permitted c m
+large-combustion c m h = rw (ne-eqb c 15 (λ e. omega arith), ne-eqb c 0 (λ e. omega arith), ne-eqb c 25 (λ e. omega arith), ne-eqb c 20 (λ e. omega arith))
+
+pub large-metering : (c m : ℕ) → 255 < m → false ≡ permitted c m
+large-metering c m h =
+    rw (ne-eqb m 15 (λ e. omega arith), ne-eqb m 0 (λ e. omega arith), ne-eqb m 20 (λ e. omega arith), and-false (eqb c 15), and-false (eqb c 0), and-false (eqb c 25), and-false (eqb c 20))
+
+-- volume × value by the two digits of the volume: `high` is the first one times the value, and `share` the unit without the base
+module _ (u v x : ℕ) (unit : RegisterUnit u) where
+  abbrev share : ℕ
+  share = u / 1000000
+
+  abbrev high : ℕ
+  high = v / 1000000 * x
+
+  abbrev before : Register
+  before = record { whole = high / share; rest = high % share * 1000000 }
+
+  unit-is : share * 1000000 ≡ u
+  unit-is = omega (arith, unit .parts)
+
+  pub share-some : 0 < share
+  share-some = omega (arith, unit-is, unit .some)
+
+  pub before-below : before .rest < u
+  before-below = omega (arith, mod-lt high share-some, unit-is)
+
+  -- both digits together, in the unit of the rest
+  digits : amountIn u before + v % 1000000 * x ≡ amountIn u nothingBooked + v * x
+  digits =
+      let first : high / share * share + high % share ≡ high = div-add-mod' high share in
+      let second : v / 1000000 * 1000000 + v % 1000000 ≡ v = div-add-mod' v 1000000 in
+      let a : high / share * u ≡ high / share * share * 1000000 = omega (arith, ap (λ (n : ℕ). high / share * n) unit-is) in
+      let b : v * x ≡ (v / 1000000 * 1000000 + v % 1000000) * x = ap (λ (n : ℕ). n * x) (sym second) in
+      omega (arith, a, b, ap (λ (n : ℕ). n * 1000000) first)
+
+  pub product-is : booked u before (v % 1000000 * x) ≡ booked u nothingBooked (v * x)
+  product-is = ap (λ (n : ℕ). record { whole = n / u; rest = n % u }) digits
+
+-- one register beside another, each with its rest below one whole
+module _ (u : ℕ) (e most : Register) (below : e .rest < u) (whole : most .rest < u) where
+  pub amount-at-most : Tells (atMost e most) (amountIn u e ≤ amountIn u most)
+  amount-at-most = go (ltb (e .whole) (most .whole)) (eqb (e .whole) (most .whole)) (leb (e .rest) (most .rest)) refl refl refl
+    where
+      more : {a b : ℕ} → a < b → a * u + u ≤ b * u
+      more {a} h = omega (arith, mul-le-mul-right u h)
+
+      equal : eqb (e .whole) (most .whole) ≡ true → e .whole * u ≡ most .whole * u
+      equal i = ap (λ (n : ℕ). n * u) (eqb-true (e .whole) (most .whole) i)
+
+      go : (lower same least : Bool) → ltb (e .whole) (most .whole) ≡ lower → eqb (e .whole) (most .whole) ≡ same → leb (e .rest) (most .rest) ≡ least →
+          Tells (lower || (same && least)) (amountIn u e ≤ amountIn u most)
+      go true same least h i j = tells-true (omega (arith, more (ltb-true (e .whole) (most .whole) h)))
+      go false true true h i j = tells-true (omega (arith, equal i, leb-true (e .rest) (most .rest) j))
+      go false true false h i j = tells-false (λ l. omega (arith, equal i, leb-false (e .rest) (most .rest) j, l))
+      go false false least h i j =
+          let above : most .whole < e .whole = omega (arith, eqb-false (e .whole) (most .whole) i, ltb-false (e .whole) (most .whole) h) in
+          tells-false (λ l. omega (arith, more above, l))
+
+-- the register of a volume at a value up to a ceiling; `most` is volume × ceiling
+pub register-holds : (u ceiling v : ℕ) (e most : Register) → 0 < u → most ≡ booked u nothingBooked (v * ceiling) →
+    Tells (ltb (e .rest) u && atMost e most) (SoundRegister u ceiling v e)
+register-holds u ceiling v e most some is = go (ltb (e .rest) u) refl
+  where
+    amount : amountIn u most ≡ v * ceiling
+    amount = ap (amountIn u) is ∙ amount-booked u some nothingBooked (v * ceiling) ∙ omega arith
+
+    below : most .rest < u
+    below = rw is (mod-lt (amountIn u nothingBooked + v * ceiling) some)
+
+    go : (b : Bool) → ltb (e .rest) u ≡ b → Tells (b && atMost e most) (SoundRegister u ceiling v e)
+    go true h =
+        let rest = ltb-true (e .rest) u h in
+        let t = amount-at-most u e most rest below in
+        record { yes = λ y. record { rest = rest; amount = omega (arith, t .yes y, amount) }; no = λ s. t .no (omega (arith, s .amount, amount)) }
+    go false h = tells-false (λ s. omega (arith, ltb-false (e .rest) u h, s .rest))
+
+-- totals, from the test of each register
+pub totals-hold : (t : StreamTotals) {b : Bool} → t .volume ≤ mostTotal → Tells b (SoundRegister perMJ calorificBound (t .volume) (t .superior)) → Tells b (SoundTotals t)
+totals-hold t low h = record { yes = λ y. record { volume = low; superior = h .yes y }; no = λ s. h .no (s .superior) }
+
+-- the ceilings
+ceilings-hold : (p : Six) → Tells (belowCeilings p) (Bounded p)
+ceilings-hold p =
+    record {
+      yes = λ y.
+          let w = both _ _ y in
+          let d = both _ _ (w .0) in
+          let r = both _ _ (d .0) in
+          let i = both _ _ (r .0) in
+          let s = both _ _ (i .0) in
+          record {
+            Z = leb-true _ _ (s .0);
+            Hs = leb-true _ _ (s .1);
+            Hi = leb-true _ _ (i .1);
+            rho = leb-true _ _ (r .1);
+            d = leb-true _ _ (d .1);
+            W = leb-true _ _ (w .1);
+          };
+      no = λ b. rw (le-leb _ _ (b .Z), le-leb _ _ (b .Hs), le-leb _ _ (b .Hi), le-leb _ _ (b .rho), le-leb _ _ (b .d), le-leb _ _ (b .W));
+    }
+
+-- the elements of a list from the place i on
+abbrev elements : ℕ → ℕ → List ℕ → List ℕ
+elements i zero l = []
+elements i (suc n) l = getD l i 0 ∷ elements (suc i) n l
+
+dropped : (i n : ℕ) (l : List ℕ) → length l ≡ i + n → drop i l ≡ elements i n l
+dropped i zero l e = drop-of-length-le l {i = i} (omega arith)
+dropped i (suc n) l e = drop-cons l i 0 (omega arith) ∙ ap (λ (r : List ℕ). getD l i 0 ∷ r) (dropped (suc i) n l (omega arith))
+
+-- with no analysis every word is 0, and with one the first word is 1
+blank : (a : InForce) (t : StreamTotals) → SoundAnalysis a t → (getD (analysisWords a (packedTotals t)) 0 0 ≡ 1 → ⊥) →
+    analysisWords a (packedTotals t) ≡ replicate 12 0
+blank Nothing t h none = ap (analysisWords Nothing) (ap packedTotals h)
+blank (Known gas) t h none = elim (none refl) [ ]
+
+-- the parts of a stream with an analysis
+record Parts (row : List ℕ) : Type 0 where
+  pub pair : permitted (getD row 1 0) (getD row 2 0) ≡ true
+  pub bounded : Bounded (sixIn row)
+  pub totals : SoundTotals (totalsIn row)
+
+parts : (a : InForce) (t : StreamTotals) → SoundAnalysis a t → SoundTotals t → getD (analysisWords a (packedTotals t)) 0 0 ≡ 1 → Parts (analysisWords a (packedTotals t))
+parts Nothing t h sound one = let f : ⊥ = omega arith in elim f [ ]
+parts (Known gas) t h sound one = record { pair = h .pair; bounded = h .bounded; totals = sound }
+
+module _ (row : List ℕ) where
+  pub blank-holds : row ≡ replicate 12 0 → LentRow row
+  blank-holds e = record { stream = freshStream; sound = fresh-stream-is-sound; holds = e }
+
+  -- a row with 1 in its first word
+  analysed-holds : length row ≡ 12 → getD row 0 0 ≡ 1 → Parts row → LentRow row
+  analysed-holds long one p =
+      record {
+        stream = record { analysis = Known (gasIn row); totals = totalsIn row };
+        sound = record { analysis = record { pair = p .pair; bounded = p .bounded }; totals = p .totals };
+        holds = dropped 0 12 row long ∙ ap (λ (w : ℕ). w ∷ elements 1 11 row) one;
+      }
+
+  lent-parts : getD row 0 0 ≡ 1 → LentRow row → Parts row
+  lent-parts one l =
+      let s = l .stream in
+      subst Parts (sym (l .holds)) (parts (s .analysis) (s .totals) (l .sound .analysis) (l .sound .totals) (sym (ap (λ (r : List ℕ). getD r 0 0) (l .holds)) ∙ one))
+
+  lent-blank : (getD row 0 0 ≡ 1 → ⊥) → LentRow row → row ≡ replicate 12 0
+  lent-blank none l =
+      let s = l .stream in
+      l .holds ∙ blank (s .analysis) (s .totals) (l .sound .analysis) (λ one. none (ap (λ (r : List ℕ). getD r 0 0) (l .holds) ∙ one))
+
+  -- a row that is not 0 everywhere, from the tests of its parts
+  pub row-holds : length row ≡ 12 → (row ≡ replicate 12 0 → ⊥) → (pair ceilings totals : Bool) → pair ≡ permitted (getD row 1 0) (getD row 2 0) →
+      ceilings ≡ belowCeilings (sixIn row) → Tells totals (SoundTotals (totalsIn row)) → Tells (eqb (getD row 0 0) 1 && pair && ceilings && totals) (LentRow row)
+  row-holds long some pair ceilings totals p c t =
+      record {
+        yes = λ y.
+            let z = both _ _ y in
+            let m = both _ _ (z .0) in
+            let f = both _ _ (m .0) in
+            analysed-holds long (eqb-true _ _ (f .0))
+            (record { pair = sym p ∙ f .1; bounded = ceilings-hold (sixIn row) .yes (sym c ∙ m .1); totals = t .yes (z .1) });
+        no = λ l. go l (eqb (getD row 0 0) 1) refl;
+      }
+    where
+      go : LentRow row → (b : Bool) → eqb (getD row 0 0) 1 ≡ b → (eqb (getD row 0 0) 1 && pair && ceilings && totals) ≡ true
+      go l true e =
+          let q = lent-parts (eqb-true _ _ e) l in
+          rw (e, p ∙ q .pair, c ∙ ceilings-hold (sixIn row) .no (q .bounded), t .no (q .totals))
+      go l false e = elim (some (lent-blank (eqb-false _ _ e) l)) [ ]
+
+-- rows that hold a stream each hold a meter together
+first-of : (row : List ℕ) (rows : List (List ℕ)) → EachLent (row ∷ rows) → LentRow row
+first-of row rows h = h 0 (omega arith)
+
+others-of : (row : List ℕ) (rows : List (List ℕ)) → EachLent (row ∷ rows) → EachLent rows
+others-of row rows h k l = h (suc k) (omega arith)
+
+streams : (rows : List (List ℕ)) → EachLent rows → List Stream
+streams [] h = []
+streams (row ∷ rows) h = first-of row rows h .stream ∷ streams rows (others-of row rows h)
+
+all-hold : (rows : List (List ℕ)) (h : EachLent rows) → rows ≡ map packedStream (streams rows h)
+unfolding streams
+all-hold [] h = refl
+all-hold (row ∷ rows) h = λ i. first-of row rows h .holds i ∷ all-hold rows (others-of row rows h) i
+
+as-many : (rows : List (List ℕ)) (h : EachLent rows) → length (streams rows h) ≡ length rows
+unfolding streams
+as-many [] h = refl
+as-many (row ∷ rows) h = ap suc (as-many rows (others-of row rows h))
+
+each-sound : (rows : List (List ℕ)) (h : EachLent rows) (k : ℕ) → k < length rows → SoundStream (getD (streams rows h) k freshStream)
+unfolding streams
+each-sound [] h k l = absurd (not-suc-le-zero l)
+each-sound (row ∷ rows) h zero l = first-of row rows h .sound
+each-sound (row ∷ rows) h (suc k) l = each-sound rows (others-of row rows h) k (le-of-suc-le-suc l)
+
+pub words-hold : (words : List (List ℕ)) {b : Bool} → length words ≡ 16 → Tells b (EachLent words) → Tells b (Lent words)
+words-hold words count t =
+    record {
+      yes = λ y.
+          let h = t .yes y in
+          record {
+            meter = record { streams = streams words h };
+            sound = record { count = as-many words h ∙ count; each = λ k low. each-sound words h k (omega arith) };
+            holds = all-hold words h;
+          };
+      no = λ l. t .no (λ k low. lent-row k l (omega arith));
+    }

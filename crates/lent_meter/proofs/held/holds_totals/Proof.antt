@@ -1,0 +1,18 @@
+-- The volume, and its register.
+use native.Mathlib.Omega.{arith}
+use borrow.Author.Needs.{needs}
+use Rattle.lent_meter.proofs.Telling.{tells-false, totals-hold}
+use Rattle.lent_meter.proofs.held.holds_totals.Statement.{statement}
+use Rattle.lent_meter.proofs.held.holds_totals.Tie as tie
+
+returns : tie.Need-returns
+returns c = rw (← c .before .before .totals-in .ensures) (tells-false (λ s. omega (arith, s .volume, c .if1 .taken)))
+
+returns-2 : tie.Need-returns-2
+returns-2 c =
+    let e = c .before in
+    let t = e .before .before in
+    rw (← t .totals-in .ensures) (totals-hold (t .totals-in .result) (e .if1 .left) (c .holds-register .ensures))
+
+pub holds-totals-spec : {M : Type 1} → statement M
+holds-totals-spec = tie.close (tie.spec (λ c κs. search needs) returns (λ c κs. search needs) returns-2)

@@ -1,0 +1,33 @@
+-- 13, or what the metering of the row gives.
+use mathlib.Core.Path.{refl}
+use native.Mathlib.Omega.{arith}
+use borrow.Author.Needs.{needs}
+use Rattle.meter.specs.State.{streamAt, withStream}
+use Rattle.meter.specs.Calls.{metered}
+use Rattle.meter.proofs.Orders.{above}
+use Rattle.lent_meter.specs.Words.{packed}
+use Rattle.lent_meter.specs.Lent.{rowMeteringOrder}
+use Rattle.lent_meter.proofs.Outcomes.{refusal, row-holds, lifted, lent-row}
+use Rattle.lent_meter.proofs.metering.Statement.{statement}
+use Rattle.lent_meter.proofs.metering.Tie as tie
+
+returns : tie.Need-returns
+returns c m sound holds =
+    let a = c .before .args in
+    let s = streamAt m (a .stream) in
+    refusal packed (withStream m (a .stream) (metered s (a .volume))) _ (above (rowMeteringOrder s (a .volume)) (c .if1 .taken)) (λ z. omega arith) refl
+
+metering-row-requires : tie.Need-metering-row-requires
+metering-row-requires c κs = lent-row (c .before .before .args .stream) (c .before .before .pre) (c .before .if1 .left)
+
+returns-2 : tie.Need-returns-2
+returns-2 c m sound holds =
+    let b = c .before .before in
+    let a = b .before .args in
+    let low = b .if1 .left in
+    let s = streamAt m (a .stream) in
+    lifted m sound holds (a .stream) low (metered s (a .volume)) (rowMeteringOrder s (a .volume))
+    (c .metering-row .ensures s (sound .each (a .stream) low) (row-holds m sound holds (a .stream) low))
+
+pub metering-spec : {M : Type 1} → statement M
+metering-spec = tie.close (tie.spec returns (λ c. search needs) (λ c. search needs) metering-row-requires returns-2)

@@ -1,0 +1,92 @@
+-- 15, 16, 17, or the row with the volume.
+use mathlib.Core.Path.{_≡_, refl, ap, _∙_}
+use Prim.Native.Nat.{ℕ}
+use native.Mathlib.Omega.{arith}
+use borrow.Author.Tests.{eq-eqb, ne-eqb}
+use borrow.Author.Needs.{needs}
+use Rattle.meter.specs.declared.StreamTotals.{StreamTotals}
+use Rattle.meter.specs.declared.Stream.{Stream}
+use Rattle.meter.specs.State.{SoundTotals}
+use Rattle.meter.specs.Calls.{metered}
+use Rattle.lent_meter.specs.Words.{packedStream}
+use Rattle.lent_meter.proofs.Outcomes.{refusal, acceptance}
+use Rattle.lent_meter.proofs.Rows.{none-is, totals-are, six-bounded, fifteen, sixteen, seventeen, clear, row-metered}
+use Rattle.lent_meter.proofs.metering_row.Statement.{statement}
+use Rattle.lent_meter.proofs.metering_row.Tie as tie
+
+-- the totals that were read are the stream's
+module _ (c : tie.After-totals-in) where
+  abbrev start : tie.Start
+  start = c .before .before .before .before .before
+
+  read : (s : Stream) → start .args .row .now ≡ packedStream s → c .totals-in .result ≡ s .totals
+  read s holds = c .totals-in .ensures ∙ totals-are s holds
+
+  volume-is : (s : Stream) → start .args .row .now ≡ packedStream s → c .totals-in .result .volume ≡ s .totals .volume
+  volume-is s holds = ap (λ (t : StreamTotals). t .volume) (read s holds)
+
+  sound : SoundTotals (c .totals-in .result)
+  sound = let l = start .pre in rw (read (l .stream) (l .holds)) (l .sound .totals)
+
+returns : tie.Need-returns
+returns c s sound holds = let v = c .before .args .volume in refusal packedStream (metered s v) _ (fifteen s v (c .if1 .taken)) (λ z. omega arith) refl
+
+returns-2 : tie.Need-returns-2
+returns-2 c s sound holds =
+    let e = c .before .before in
+    let v = e .before .args .volume in
+    refusal packedStream (metered s v) _ (sixteen s v (e .if1 .left) (none-is s holds (eq-eqb _ 0 (c .if2 .taken)))) (λ z. omega arith) refl
+
+sub-if3 : tie.Need-sub-if3
+sub-if3 c = sound (c .before) .volume
+
+returns-3 : tie.Need-returns-3
+returns-3 c s sound holds =
+    let t = c .before .before in
+    let d = t .before .before in
+    let e = d .before .before in
+    let v = e .before .args .volume in
+    refusal packedStream (metered s v) _
+    (seventeen s v (e .if1 .left) (none-is s holds (ne-eqb _ 0 (d .if2 .left))) (omega (arith, c .if3 .taken, volume-is t s holds, sound .totals .volume)))
+    (λ z. omega arith) refl
+
+properties-in-requires : tie.Need-properties-in-requires
+properties-in-requires c κs = let l = start (c .before .before .before) .pre in six-bounded (l .stream) (l .holds) (l .sound)
+
+added-requires : tie.Need-added-requires
+added-requires c κs =
+    let p = c .before in
+    let d = p .before .before in
+    let t = d .before .before in
+    let l = start t .pre in
+    let e = t .before .before .before .before in
+    ((sound t, rw (p .properties-in .ensures) (six-bounded (l .stream) (l .holds) (l .sound))), (e .if1 .left, omega (arith, d .if3 .left, sound t .volume)))
+
+returns-4 : tie.Need-returns-4
+returns-4 c s sound holds =
+    let a = c .before in
+    let p = a .before .before in
+    let b = p .before .before in
+    let t = b .before .before in
+    let d = t .before .before in
+    let e = d .before .before in
+    let v = e .before .args .volume in
+    let some = none-is s holds (ne-eqb _ 0 (d .if2 .left)) in
+    acceptance packedStream (metered s v) _
+    (clear s v (e .if1 .left) some (omega (arith, b .if3 .left, volume-is t s holds, sound .totals .volume))) refl
+    (c .put-totals .ensures ∙ row-metered s holds some v (t .totals-in .ensures) (p .properties-in .ensures) (a .added .ensures))
+
+pub metering-row-spec : {M : Type 1} → statement M
+metering-row-spec =
+    tie.close
+    (tie.spec
+    returns
+    (λ c. search needs)
+    returns-2
+    (λ c κs. search needs)
+    sub-if3
+    returns-3
+    properties-in-requires
+    added-requires
+    (λ c κs. search needs)
+    returns-4)

@@ -1,0 +1,4 @@
+pub mod Words
+pub mod Lent
+pub mod Check
+pub mod Kept

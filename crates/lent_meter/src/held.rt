@@ -1,0 +1,130 @@
+// Whether words hold a meter.
+use super::words;
+use super::words::Row;
+use meter::Register;
+use properties::quantities::CalorificValue;
+use properties::quantities::CompressionFactor;
+use properties::quantities::Density;
+use properties::quantities::RelativeDensity;
+use properties::quantities::WobbeIndex;
+ghost use mathlib.Core.Path.{_≡_};
+ghost use Prim.Native.Nat.{_*_, _^_, _≤_, _<_};
+ghost use lib.ListN.{length, replicate};
+ghost use Rattle.records.specs.Conditions.{permitted};
+ghost use Rattle.meter.specs.State.{mostTotal, nothingBooked, SoundRegister, SoundTotals};
+ghost use Rattle.meter.specs.Calls.{booked};
+ghost use Rattle.lent_meter.specs.Words.{totalsIn, sixIn};
+ghost use Rattle.lent_meter.specs.Lent.{LentRow, EachLent};
+ghost use Rattle.lent_meter.specs.Check.{Tells, RegisterUnit, belowCeilings, atMost};
+
+// Two digits to this base make every volume total, and the unit of every register is a multiple of it.
+const BASE: u64 = 1000000;
+
+// Whether every word is 0.
+fn all_zero(row: &[u64]) -> bool
+    ensures { λ r. ⌜ Tells r (now (row .entry) ≡ replicate (length (now (row .entry))) 0) ⌝ }
+{
+    for i in 0..row.len() {
+        if row[i] != 0 {
+            return false;
+        }
+    }
+    true
+}
+
+// Whether two words are a permitted pair.
+fn pair_holds(combustion: u64, metering: u64) -> bool
+    ensures { λ r. ⌜ r ≡ permitted combustion metering ⌝ }
+{
+    if 255 < combustion {
+        return false;
+    }
+    if 255 < metering {
+        return false;
+    }
+    records::pair_permitted(combustion as u8, metering as u8)
+}
+
+// Whether no property in a row passes its ceiling.
+fn below_ceilings(row: &Row) -> bool
+    ensures { λ r. ⌜ r ≡ belowCeilings (sixIn (now (row .entry))) ⌝ }
+{
+    (row[words::Z] <= CompressionFactor::BOUND)
+        & (row[words::HS] <= CalorificValue::BOUND)
+        & (row[words::HI] <= CalorificValue::BOUND)
+        & (row[words::RHO] <= Density::BOUND)
+        & (row[words::D] <= RelativeDensity::BOUND)
+        & (row[words::W] <= WobbeIndex::BOUND)
+}
+
+// Volume × value as a register, `unit` of whose rest make one whole.
+fn product(unit: u64, volume: u64, value: u64) -> Register
+    requires { ⌜ RegisterUnit unit ⌝ }
+    requires { ⌜ (volume ≤ mostTotal) × (value < 2 ^ 32) ⌝ }
+    ensures { λ r. ⌜ r ≡ booked unit nothingBooked (volume * value) ⌝ }
+{
+    let share = unit / BASE;
+    let high = volume / BASE * value;
+    let before = Register {
+        whole: high / share,
+        rest: high % share * BASE,
+    };
+    meter::booked(before, unit, volume % BASE, value)
+}
+
+// Whether a register holds no more than another, both with rests below one whole.
+fn at_most(register: Register, most: Register) -> bool
+    ensures { λ r. ⌜ r ≡ atMost register most ⌝ }
+{
+    (register.whole < most.whole) | ((register.whole == most.whole) & (register.rest <= most.rest))
+}
+
+// Whether a register is one of a volume, at a value up to the ceiling.
+fn holds_register(register: Register, unit: u64, volume: u64, ceiling: u64) -> bool
+    requires { ⌜ RegisterUnit unit ⌝ }
+    requires { ⌜ (volume ≤ mostTotal) × (ceiling < 2 ^ 32) ⌝ }
+    ensures { λ r. ⌜ Tells r (SoundRegister unit ceiling volume register) ⌝ }
+{
+    (register.rest < unit) & at_most(register, product(unit, volume, ceiling))
+}
+
+// Whether the totals in a row are those of a stream.
+fn holds_totals(row: &Row) -> bool
+    ensures { λ r. ⌜ Tells r (SoundTotals (totalsIn (now (row .entry)))) ⌝ }
+{
+    let totals = words::totals_in(row);
+    if meter::MOST_TOTAL < totals.volume {
+        return false;
+    }
+    holds_register(
+        totals.superior,
+        meter::PER_MJ,
+        totals.volume,
+        CalorificValue::BOUND,
+    )
+}
+
+// Whether a row holds a stream: one without an analysis, or one with.
+fn holds_stream(row: &Row) -> bool
+    ensures { λ r. ⌜ Tells r (LentRow (now (row .entry))) ⌝ }
+{
+    if all_zero(row) {
+        return true;
+    }
+    (row[words::ANALYSED] == 1)
+        & pair_holds(row[words::COMBUSTION], row[words::METERING])
+        & below_ceilings(row)
+        & holds_totals(row)
+}
+
+// Whether each row holds a stream.
+pub fn each_holds(rows: &[Row]) -> bool
+    ensures { λ r. ⌜ Tells r (EachLent (now (rows .entry))) ⌝ }
+{
+    for k in 0..rows.len() {
+        if !holds_stream(&rows[k]) {
+            return false;
+        }
+    }
+    true
+}

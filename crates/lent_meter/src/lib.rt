@@ -1,0 +1,134 @@
+// The meter of document 01 in words that the caller lends and a call changes in place, so that firmware in C or Rust can call it and keep
+// it. A row of words holds a stream. Each call on a stream tests 13 and works on the stream's row alone; it gives 0, or document 01's
+// number, and a refusal leaves all that was lent as it was.
+mod held;
+mod words;
+
+use meter::MeanAnswer;
+use properties::Answer;
+use words::Row;
+ghost use mathlib.Core.Path.{_≡_};
+ghost use Prim.Native.Nat.{ℕ};
+ghost use Rattle.meter.specs.declared.Meter.{Meter};
+ghost use Rattle.meter.specs.declared.Stream.{Stream};
+ghost use Rattle.meter.specs.State.{freshMeter};
+ghost use Rattle.meter.specs.Calls.{analysisOf, meteringOf, totalsOf, meanOf};
+ghost use Rattle.lent_meter.specs.Words.{packed, packedTotals};
+ghost use Rattle.lent_meter.specs.Lent.{Lent, LentRow, OnWords, Reads, OnRow, rowAnalysis, rowMetering};
+ghost use Rattle.lent_meter.specs.Check.{Tells};
+
+// Streams of a meter.
+pub const STREAMS: usize = 16;
+
+pub type Words = [Row; STREAMS];
+
+// A meter as made.
+pub fn fresh(words: &mut Words)
+    ensures { λ _. ⌜ now (words .exit) ≡ packed freshMeter ⌝ }
+{
+    *words = [[0u64; words::WORDS]; STREAMS];
+}
+
+// Whether words hold a meter: for any words whatever.
+pub fn check(words: &Words) -> bool
+    ensures { λ r. ⌜ Tells r (Lent (now (words .entry))) ⌝ }
+{
+    held::each_holds(words)
+}
+
+fn wide(byte: u8) -> u64
+    ensures { λ r. ⌜ r ≡ byte ⌝ }
+{
+    byte as u64
+}
+
+// The record's number, 14, or the row with the record's properties in force.
+fn analysis_row(row: &mut Row, bytes: &[u8]) -> u8
+    ensures { λ r. ⌜ OnRow (λ (s : Stream). rowAnalysis s (now (bytes .entry))) (now (row .entry)) r (now (row .exit)) ⌝ }
+{
+    match properties::properties_of(bytes) {
+        Answer::Refused(refusal) => refusal,
+        Answer::Accepted(p) => {
+            let combustion = wide(records::combustion_in(bytes));
+            let metering = wide(records::metering_in(bytes));
+            let differs = (row[words::COMBUSTION] != combustion)
+                | (row[words::METERING] != metering);
+            let refusal = meter::pair_refusal((row[words::ANALYSED] != 0) & differs);
+            if refusal == 0 {
+                words::put_gas(row, combustion, metering, p);
+            }
+            refusal
+        }
+    }
+}
+
+// The properties of a record come into force on a stream.
+pub fn analysis(words: &mut Words, stream: usize, bytes: &[u8]) -> u8
+    ensures { λ r. ⌜ OnWords (λ (m : Meter). analysisOf m stream (now (bytes .entry))) (now (words .entry)) r (now (words .exit)) ⌝ }
+{
+    if meter::LAST_STREAM < stream {
+        return 13;
+    }
+    analysis_row(&mut words[stream], bytes)
+}
+
+// 15, 16, 17, or the row with the volume added.
+fn metering_row(row: &mut Row, volume: u64) -> u8
+    requires { ⌜ LentRow (now row) ⌝ }
+    ensures { λ r. ⌜ OnRow (λ (s : Stream). rowMetering s volume) (now (row .entry)) r (now (row .exit)) ⌝ }
+{
+    if meter::MOST_VOLUME < volume {
+        return 15;
+    }
+    if row[words::ANALYSED] == 0 {
+        return 16;
+    }
+    let totals = words::totals_in(row);
+    if meter::MOST_TOTAL - totals.volume < volume {
+        return 17;
+    }
+    let properties = words::properties_in(row);
+    words::put_totals(row, meter::added(totals, properties, volume));
+    0
+}
+
+// A stream takes a volume, in dm³.
+pub fn metering(words: &mut Words, stream: usize, volume: u64) -> u8
+    requires { ⌜ Lent (now words) ⌝ }
+    ensures { λ r. ⌜ OnWords (λ (m : Meter). meteringOf m stream volume) (now (words .entry)) r (now (words .exit)) ⌝ }
+{
+    if meter::LAST_STREAM < stream {
+        return 13;
+    }
+    metering_row(&mut words[stream], volume)
+}
+
+// The volume and the energy of a stream.
+pub fn totals(words: &Words, stream: usize, out: &mut [u64; 3]) -> u8
+    ensures { λ r. ⌜ Reads packedTotals (λ (m : Meter). totalsOf m stream) (now (words .entry)) (now (out .entry)) r (now (out .exit)) ⌝ }
+{
+    if meter::LAST_STREAM < stream {
+        return 13;
+    }
+    let found = words::totals_in(&words[stream]);
+    *out = [found.volume, found.superior.whole, found.superior.rest];
+    0
+}
+
+// The mean calorific value of what a stream has taken, in J/m³.
+pub fn mean(words: &Words, stream: usize, out: &mut u64) -> u8
+    requires { ⌜ Lent (now words) ⌝ }
+    ensures { λ r. ⌜ Reads (λ (h : ℕ). h) (λ (m : Meter). meanOf m stream) (now (words .entry)) (now (out .entry)) r (now (out .exit)) ⌝ }
+{
+    if meter::LAST_STREAM < stream {
+        return 13;
+    }
+    let found = words::totals_in(&words[stream]);
+    match meter::mean_over(found.superior, found.volume) {
+        MeanAnswer::Refused(number) => number,
+        MeanAnswer::Accepted(h) => {
+            *out = h.value();
+            0
+        }
+    }
+}
