@@ -2,9 +2,10 @@
 use mathlib.Core.Path.{_≡_, refl, sym, ap, _∙_}
 use mathlib.Core.List.{List, [], _∷_, map}
 use Prim.Native.Nat.{ℕ, zero, suc}
-use lib.ListN.{getD}
-use Rattle.records.specs.Order.{Outcome, refused, accepted, firstOf, otherwise, mapped}
-use Rattle.records.specs.Answers.{verdictOf}
+use lib.ListN.{getD, set}
+use lib.Seq.{getD-set-other}
+use Rattle.records.specs.Order.{Outcome, refused, accepted, firstOf, decided, otherwise, mapped}
+use Rattle.records.specs.Answers.{verdictOf, Returns}
 use Rattle.records.proofs.OrderLaws.{gives}
 use Rattle.meter.specs.declared.InForce.{InForce}
 use Rattle.meter.specs.declared.InForce.the-variants.{Nothing, Known}
@@ -17,12 +18,13 @@ use Rattle.meter.specs.Calls.{analysed, metered, analysisOf, meteringOf, afterA
 use Rattle.meter.proofs.Kept.{fresh-is-sound, analysis-keeps, metering-keeps}
 use Rattle.lent_meter.specs.Words.{packedTotals, analysisWords, packedStream, packed, gasIn, totalsIn}
 use Rattle.lent_meter.specs.Lent.{Lent, OnWords}
-use Rattle.lent_meter.specs.Kept.{FreshIsLent, AnalysisKeepsLent, MeteringKeepsLent, WordsTell}
+use Rattle.lent_meter.specs.Kept.{FreshIsLent, AnalysisKeepsLent, MeteringKeepsLent, AnalysisLeavesRows, MeteringLeavesRows, WordsTell}
+use Rattle.lent_meter.proofs.Outcomes.{with-row}
 
 pub fresh-is-lent : FreshIsLent
 fresh-is-lent = record { meter = freshMeter; sound = fresh-is-sound; holds = refl }
 
-packed-otherwise : (m : Meter) (o : Outcome Meter) → otherwise (packed m) (mapped packed o) ≡ packed (otherwise m o)
+pub packed-otherwise : (m : Meter) (o : Outcome Meter) → otherwise (packed m) (mapped packed o) ≡ packed (otherwise m o)
 packed-otherwise m (refused n) = refl
 packed-otherwise m (accepted a) = refl
 
@@ -52,6 +54,24 @@ analysis-keeps-lent k bs n before after = keeps (λ (m : Meter). analysisOf m k 
 
 pub metering-keeps-lent : MeteringKeepsLent
 metering-keeps-lent k v n before after = keeps (λ (m : Meter). meteringOf m k v) (sound-after-metering k v)
+
+-- the row of another stream
+other-row : (n : ℕ) (m : Meter) (k j : ℕ) (s : Stream) {number : ℕ} {before after : List (List ℕ)} → (j ≡ k → ⊥) → before ≡ packed m →
+    Returns (mapped packed (decided n (withStream m k s))) before number after → getD after j [] ≡ getD before j []
+other-row zero m k j s {before = before} other holds r =
+    ap (λ (w : List (List ℕ)). getD w j []) (r .after-is ∙ sym (with-row (m .streams) k s) ∙ ap (λ (w : List (List ℕ)). set w k (packedStream s)) (sym holds))
+    ∙ getD-set-other before k j (packedStream s) [] other
+other-row (suc n) m k j s other holds r = ap (λ (w : List (List ℕ)). getD w j []) (r .after-is)
+
+pub analysis-leaves-rows : AnalysisLeavesRows
+analysis-leaves-rows k bs n before after on l j other =
+    let m = l .meter in
+    other-row (firstOf (analysisOrder k bs (streamAt m k))) m k j (analysed (streamAt m k) bs) other (l .holds) (on m (l .sound) (l .holds))
+
+pub metering-leaves-rows : MeteringLeavesRows
+metering-leaves-rows k v n before after on l j other =
+    let m = l .meter in
+    other-row (firstOf (meteringOrder k v (streamAt m k))) m k j (metered (streamAt m k) v) other (l .holds) (on m (l .sound) (l .holds))
 
 -- the stream of a row
 abbrev analysisIn : ℕ → List ℕ → InForce

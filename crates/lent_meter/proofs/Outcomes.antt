@@ -40,7 +40,7 @@ row-at [] k h = absurd (not-suc-le-zero h)
 row-at (x ∷ l) zero h = refl
 row-at (x ∷ l) (suc k) h = row-at l k (le-of-suc-le-suc h)
 
-with-row : (l : List Stream) (k : ℕ) (s : Stream) → set (map packedStream l) k (packedStream s) ≡ map packedStream (set l k s)
+pub with-row : (l : List Stream) (k : ℕ) (s : Stream) → set (map packedStream l) k (packedStream s) ≡ map packedStream (set l k s)
 with-row [] k s = refl
 with-row (x ∷ l) zero s = refl
 with-row (x ∷ l) (suc k) s = ap (λ (r : List (List ℕ)). packedStream x ∷ r) (with-row l k s)

@@ -1,11 +1,16 @@
--- The functions whose contracts `Run` reads are proved (`-proved`: their theorems, by name), and what `Run` reads of a contract is what a
--- caller knows by it (`-read`).
+-- The functions whose contracts `Run` and `LentRun` read are proved (`-proved`: their theorems, by name), and what these read of a
+-- contract is what a caller knows by it (`-read`). `lent-` stands before the exported functions of the lent meter.
 use borrow.Fn.Picked.{KnownAs}
 use Rattle.meter.proofs.fresh as fresh
 use Rattle.meter.proofs.analysis as analysis
 use Rattle.meter.proofs.metering as metering
 use Rattle.meter.proofs.totals as totals
 use Rattle.meter.proofs.mean as mean
+use Rattle.loonstool.proofs.loonstool_meter_fresh as lent-fresh
+use Rattle.loonstool.proofs.loonstool_meter_analysis as lent-analysis
+use Rattle.loonstool.proofs.loonstool_meter_metering as lent-metering
+use Rattle.loonstool.proofs.loonstool_meter_totals as lent-totals
+use Rattle.loonstool.proofs.loonstool_meter_mean as lent-mean
 
 pub fresh-proved : {M : Type 1} → fresh.Statement.statement M
 fresh-proved = fresh.Met.met
@@ -36,3 +41,33 @@ mean-proved = mean.Met.met
 
 pub mean-read : KnownAs 0 mean.Kinds.ps mean.Kinds.r mean.Reads.Ghost mean.Reads.requires mean.Reads.ensures mean.Reads.Asked mean.Reads.Learnt
 mean-read = mean.Reads.known
+
+pub lent-fresh-proved : {M : Type 1} → lent-fresh.Statement.statement M
+lent-fresh-proved = lent-fresh.Met.met
+
+pub lent-fresh-read : KnownAs 1 lent-fresh.Kinds.ps lent-fresh.Kinds.r lent-fresh.Reads.Ghost lent-fresh.Reads.requires lent-fresh.Reads.ensures lent-fresh.Reads.Asked lent-fresh.Reads.Learnt
+lent-fresh-read = lent-fresh.Reads.known
+
+pub lent-analysis-proved : {M : Type 1} → lent-analysis.Statement.statement M
+lent-analysis-proved = lent-analysis.Met.met
+
+pub lent-analysis-read : KnownAs 2 lent-analysis.Kinds.ps lent-analysis.Kinds.r lent-analysis.Reads.Ghost lent-analysis.Reads.requires lent-analysis.Reads.ensures lent-analysis.Reads.Asked lent-analysis.Reads.Learnt
+lent-analysis-read = lent-analysis.Reads.known
+
+pub lent-metering-proved : {M : Type 1} → lent-metering.Statement.statement M
+lent-metering-proved = lent-metering.Met.met
+
+pub lent-metering-read : KnownAs 1 lent-metering.Kinds.ps lent-metering.Kinds.r lent-metering.Reads.Ghost lent-metering.Reads.requires lent-metering.Reads.ensures lent-metering.Reads.Asked lent-metering.Reads.Learnt
+lent-metering-read = lent-metering.Reads.known
+
+pub lent-totals-proved : {M : Type 1} → lent-totals.Statement.statement M
+lent-totals-proved = lent-totals.Met.met
+
+pub lent-totals-read : KnownAs 2 lent-totals.Kinds.ps lent-totals.Kinds.r lent-totals.Reads.Ghost lent-totals.Reads.requires lent-totals.Reads.ensures lent-totals.Reads.Asked lent-totals.Reads.Learnt
+lent-totals-read = lent-totals.Reads.known
+
+pub lent-mean-proved : {M : Type 1} → lent-mean.Statement.statement M
+lent-mean-proved = lent-mean.Met.met
+
+pub lent-mean-read : KnownAs 2 lent-mean.Kinds.ps lent-mean.Kinds.r lent-mean.Reads.Ghost lent-mean.Reads.requires lent-mean.Reads.ensures lent-mean.Reads.Asked lent-mean.Reads.Learnt
+lent-mean-read = lent-mean.Reads.known

@@ -24,29 +24,29 @@ pub has-fresh : HasFresh
 has-fresh = record { meter = freshMeter; returns = λ p. refl }
 
 -- an answer with each meaning
-totals-with : Outcome StreamTotals → TotalsAnswer
+pub totals-with : Outcome StreamTotals → TotalsAnswer
 totals-with (refused n) = totals-answer.Refused n
 totals-with (accepted t) = totals-answer.Accepted t
 
-totals-means : (o : Outcome StreamTotals) → totalsMeaning (totals-with o) ≡ o
+pub totals-means : (o : Outcome StreamTotals) → totalsMeaning (totals-with o) ≡ o
 unfolding totals-with
 totals-means (refused n) = refl
 totals-means (accepted t) = refl
 
-mean-with : Outcome ℕ → MeanAnswer
+pub mean-with : Outcome ℕ → MeanAnswer
 mean-with (refused n) = mean-answer.Refused n
 mean-with (accepted x) = mean-answer.Accepted (record { value = x })
 
-mean-means : (o : Outcome ℕ) → meanMeaning (mean-with o) ≡ o
+pub mean-means : (o : Outcome ℕ) → meanMeaning (mean-with o) ≡ o
 unfolding mean-with
 mean-means (refused n) = refl
 mean-means (accepted x) = refl
 
 -- what a call with the number n returns, where it would leave the meter new
-abbrev changed : ℕ → Meter → Meter → Changed
+abbrev pub changed : ℕ → Meter → Meter → Changed
 changed n m new = record { meter = otherwise m (decided n new); verdict = verdictOf n }
 
-changed-gives : (n : ℕ) (m new : Meter) → Gives (decided n new) m (changed n m new .verdict) (changed n m new .meter)
+pub changed-gives : (n : ℕ) (m new : Meter) → Gives (decided n new) m (changed n m new .verdict) (changed n m new .meter)
 changed-gives n m new = gives n new m (otherwise m (decided n new)) (verdictOf n) refl refl
 
 record HasStep (m : Meter) (c : Call) : Type 0 where

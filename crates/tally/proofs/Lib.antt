@@ -4,4 +4,6 @@ mod Steps
 mod Volumes
 pub mod Demand
 pub mod Exists
+pub mod LentRuns
+pub mod LentExists
 mod Cited

@@ -1,4 +1,5 @@
 pub mod Tally
 pub mod Run
 pub mod Demand
+pub mod LentRun
 pub mod Cases
