@@ -1,4 +1,5 @@
-/* Writes the record of the gas of annex D of ISO 6976:1995, prints its properties, and reads it again.
+/* Meters methane on a stream and prints its totals and its mean; then writes the record of the gas of annex D of ISO 6976:1995, prints its
+ * properties, and reads it again.
  *
  *     rt staticlib loonstool
  *     cc -Iinclude c/example.c target/staticlib/libloonstool.a -o target/example && target/example
@@ -20,7 +21,37 @@ static void print_properties(const struct loonstool_properties *p)
     printf("rho %" PRIu64 "\nd %" PRIu64 "\nW %" PRIu64 "\n", p->rho, p->d, p->w);
 }
 
-int main(void)
+/* A fresh meter refuses to meter before there is an analysis. With methane at 15/15 in force, it meters 1,000 dm3. */
+static int meter_methane(void)
+{
+    const uint8_t methane[LOONSTOOL_RECORD_BYTES(1)] = {'G', 'C', 'R', 1, 0, 15, 15, 1, 1, 0x40, 0x42, 0x0f, 0};
+    static struct loonstool_meter meter;
+    struct loonstool_totals totals;
+    uint64_t mean;
+    loonstool_meter_fresh(&meter);
+    uint8_t number = loonstool_meter_metering(&meter, 0, 1000);
+    printf("metering without an analysis: refused %" PRIu8 "\n", number);
+
+    number = loonstool_meter_analysis(&meter, 0, methane, sizeof methane);
+    if (number != LOONSTOOL_ACCEPTED)
+        return refused("loonstool_meter_analysis", number);
+    number = loonstool_meter_metering(&meter, 0, 1000);
+    if (number != LOONSTOOL_ACCEPTED)
+        return refused("loonstool_meter_metering", number);
+
+    number = loonstool_meter_totals(&meter, 0, &totals);
+    if (number != LOONSTOOL_ACCEPTED)
+        return refused("loonstool_meter_totals", number);
+    number = loonstool_meter_mean(&meter, 0, &mean);
+    if (number != LOONSTOOL_ACCEPTED)
+        return refused("loonstool_meter_mean", number);
+    printf("volume %" PRIu64 " dm3\n", totals.volume);
+    printf("energy %" PRIu64 " MJ %" PRIu64 " mJ\n", totals.energy_mj, totals.energy_rest);
+    printf("mean %" PRIu64 " J/m3\n", mean);
+    return 0;
+}
+
+static int write_and_read(void)
 {
     const uint8_t lines[8] = {1, 2, 3, 4, 5, 6, 52, 54};
     const uint32_t fractions[8] = {924700, 35000, 9800, 2200, 3400, 600, 17500, 6800};
@@ -45,4 +76,9 @@ int main(void)
     for (size_t i = 0; i < count; i++)
         printf("line %" PRIu8 ": %" PRIu32 " ppm\n", read_lines[i], read_fractions[i]);
     return 0;
+}
+
+int main(void)
+{
+    return meter_methane() || write_and_read();
 }

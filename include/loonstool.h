@@ -1,7 +1,9 @@
-/* Natural gas properties by ISO 6976:1995: the functions of target/staticlib/libloonstool.a, which `rt staticlib loonstool` writes.
+/* Natural gas metering by ISO 6976:1995: the functions of target/staticlib/libloonstool.a, which `rt staticlib loonstool` writes. They are
+ * a meter of sixteen streams, the properties of an analysis record, and records read and written.
  *
  * Each function takes whatever numbers and bytes it is given, and gives LOONSTOOL_ACCEPTED or the number of its refusal; after a refusal
- * the caller's memory is as it was. No call looks at more than 283 bytes of a record, so its time is bounded.
+ * the caller's memory is as it was. Two refuse nothing: loonstool_meter_fresh, and loonstool_meter_check, which gives true or false. No
+ * call looks at more than 283 bytes of a record, so its time is bounded.
  *
  * A record, numbers least significant byte first: bytes 0 to 2 the mark "GCR", 3 and 4 the version, 1, 5 the combustion temperature and
  * 6 the metering temperature in degrees Celsius, 7 the number of entries n, 1 to 55; then n entries of 5 bytes, the line number (1 byte)
@@ -16,9 +18,27 @@
  *   - a pointer to what is filled points to memory that may be written, as much as the function says. It need not be initialised. It may
  *     be NULL only for a buffer of length 0;
  *   - pointers are aligned as their type asks. Bytes have no alignment;
- *   - what is filled overlaps nothing else that is lent to the same call.
+ *   - what is filled or changed overlaps nothing else that is lent to the same call.
  * The functions keep nothing between calls. They may run at once in several threads; what is only read, as a record, may be shared, what
- * is filled may not.
+ * is filled or changed may not.
+ *
+ * And for a meter, which is memory that the caller lends:
+ *   - its words hold a meter: loonstool_meter_fresh made them and the other calls alone changed them, or loonstool_meter_check accepted
+ *     them. On other words loonstool_meter_metering and loonstool_meter_mean promise nothing and may trap; loonstool_meter_analysis and
+ *     loonstool_meter_totals stay within the memory that is lent, and promise no more;
+ *   - one call at a time on a meter, but for those that only read it. Several meters may run at once.
+ *
+ * Words that were restored go through loonstool_meter_check. It refuses properties above their ceilings, a pair that is not permitted, a
+ * stream without an analysis that is not 0 everywhere, a volume total above 999,999,999,999 dm3, a rest of 10^9 mJ or more, and more energy
+ * than the volume has at the ceiling of Hs. It cannot find a damage that leaves a meter with none of these, as a flipped bit of a volume
+ * total: that takes a checksum.
+ *
+ * Power cuts: a call is several stores, in no order that is promised. A cut between them leaves neither the meter before the call nor the
+ * one after it, but, for instance, a volume without its energy, which loonstool_meter_check need not find. So firmware keeps the meter twice
+ * in memory that outlasts a cut, each copy with a counter, which says which is newer, and a checksum. It takes the newer copy, makes the
+ * call, and stores the outcome over the older copy, which is marked as unfinished before its first word changes and gets its checksum after
+ * the last. At every moment one copy is whole, and after a restart the newest whole one is the meter before the call or the one after it.
+ * c/keep.c does so, and c/try_keep.c cuts its power before every store.
  *
  * The archive is for x86-64 alone: ELF, System V calling convention, SSE2 registers, 128 bytes below the stack pointer in use. Without an
  * operating system SSE has to be switched on, and an interrupt handler leaves those 128 bytes and the xmm registers as they were. The one
@@ -27,6 +47,9 @@
 #ifndef LOONSTOOL_H
 #define LOONSTOOL_H
 
+#ifndef __cplusplus
+#include <stdbool.h>
+#endif
 #include <stddef.h>
 #include <stdint.h>
 
@@ -34,11 +57,18 @@
 #error "libloonstool.a is for x86-64 with the System V calling convention"
 #endif
 
+/* At a function whose answer has to be looked at: the compiler warns where it is ignored. */
+#ifdef __GNUC__
+#define LOONSTOOL_MUST_USE __attribute__((warn_unused_result))
+#else
+#define LOONSTOOL_MUST_USE
+#endif
+
 #ifdef __cplusplus
 extern "C" {
 #endif
 
-/* The numbers that come back. 13 to 18 belong to the meter, and none of these functions gives them. */
+/* The numbers that come back: 1 to 12 for a record, 13 to 18 from the meter's calls alone, 19 and 20 from the writer alone. */
 enum loonstool_number {
     LOONSTOOL_ACCEPTED = 0,
     LOONSTOOL_RECORD_SHORT = 1,       /* record shorter than 8 bytes */
@@ -68,9 +98,57 @@ enum loonstool_number {
 #define LOONSTOOL_RECORD_BYTES(n) (8 + 5 * (n))
 
 /* Bytes of stack that a call takes at most, the 128 below the stack pointer included, and beside memcpy's own. */
+#define LOONSTOOL_STACK_METER_FRESH 400
+#define LOONSTOOL_STACK_METER_CHECK 400
+#define LOONSTOOL_STACK_METER_ANALYSIS 600
+#define LOONSTOOL_STACK_METER_METERING 400
+#define LOONSTOOL_STACK_METER_TOTALS 400
+#define LOONSTOOL_STACK_METER_MEAN 400
 #define LOONSTOOL_STACK_PROPERTIES_OF 400
 #define LOONSTOOL_STACK_READ 1000
 #define LOONSTOOL_STACK_WRITE 400
+
+/* The streams of a meter, 0 to 15, and the words that each has. */
+#define LOONSTOOL_STREAMS 16
+#define LOONSTOOL_STREAM_WORDS 12
+
+/* A meter. Its words are for the calls below alone, and to be saved and restored as they are. */
+struct loonstool_meter {
+    uint64_t words[LOONSTOOL_STREAMS][LOONSTOOL_STREAM_WORDS];
+};
+
+/* The totals of a stream. The energy is of superior heat, exact: 10^9 x energy_mj + energy_rest mJ. */
+struct loonstool_totals {
+    uint64_t volume;      /* dm3, never above 999,999,999,999 */
+    uint64_t energy_mj;   /* whole MJ */
+    uint64_t energy_rest; /* mJ, below 1,000,000,000 */
+};
+
+/* Makes a fresh meter: no stream has an analysis, all totals are 0. */
+void loonstool_meter_fresh(struct loonstool_meter *m);
+
+/* Whether the words hold a meter, whatever they are. */
+LOONSTOOL_MUST_USE
+bool loonstool_meter_check(const struct loonstool_meter *m);
+
+/* Puts the properties of a record of `length` bytes in force on a stream. The first record that is accepted fixes the stream's pair of
+ * temperatures. Refused by 13, 1 to 12 and 14, tried in that order; the earlier record then stays in force. */
+LOONSTOOL_MUST_USE
+uint8_t loonstool_meter_analysis(struct loonstool_meter *m, size_t stream, const uint8_t *bytes, size_t length);
+
+/* Adds a volume in dm3, at most 10,000,000, to the volume total of a stream, and volume x Hs of the record in force to its energy. Refused
+ * by 13, 15, 16 and 17, tried in that order. */
+LOONSTOOL_MUST_USE
+uint8_t loonstool_meter_metering(struct loonstool_meter *m, size_t stream, uint64_t volume);
+
+/* The totals of a stream. Refused by 13. */
+LOONSTOOL_MUST_USE
+uint8_t loonstool_meter_totals(const struct loonstool_meter *m, size_t stream, struct loonstool_totals *totals);
+
+/* The mean calorific value of a stream in J/m3: its energy / its volume total, to the nearest, halves upward. Refused by 13 and 18, tried
+ * in that order. */
+LOONSTOOL_MUST_USE
+uint8_t loonstool_meter_mean(const struct loonstool_meter *m, size_t stream, uint64_t *mean);
 
 /* The six properties. None passes the ceiling beside it. */
 struct loonstool_properties {
@@ -83,15 +161,18 @@ struct loonstool_properties {
 };
 
 /* The properties of a record of `length` bytes. Refused by 1 to 12. */
+LOONSTOOL_MUST_USE
 uint8_t loonstool_properties_of(const uint8_t *bytes, size_t length, struct loonstool_properties *properties);
 
 /* Reads a record of `length` bytes: the pair of temperatures in degrees Celsius, the number of entries, and their line numbers and mole
  * fractions in ppm. It fills all LOONSTOOL_LINES places of both arrays, with 0 past the entries. Refused by 1 to 12. */
+LOONSTOOL_MUST_USE
 uint8_t loonstool_read(const uint8_t *bytes, size_t length, uint8_t *combustion, uint8_t *metering, size_t *count,
                        uint8_t lines[LOONSTOOL_LINES], uint32_t fractions[LOONSTOOL_LINES]);
 
 /* Writes a record of n entries into the first LOONSTOOL_RECORD_BYTES(n) bytes of a buffer, and no others, n being the length of both
  * lists. Refused by 19, 4, 5, 7 to 12 and 20, tried in that order. */
+LOONSTOOL_MUST_USE
 uint8_t loonstool_write(uint8_t combustion, uint8_t metering, const uint8_t *lines, size_t line_count, const uint32_t *fractions,
                         size_t fraction_count, uint8_t *buffer, size_t buffer_length);
 
