@@ -1,0 +1,367 @@
+/* Cuts the power of c/keep.c, and damages the memory that it keeps.
+ *
+ * For each call of some lists, and for each of its stores, the power fails at that store: none of its bits is stored, or some are, and
+ * nothing after it. After the restart the meter has to be the one before the call or the one after it, word for word, as the library makes
+ * it on a plain meter; so too where the power fails a second time, at each store of the call made again, and in a long list of calls most
+ * of which are cut. Then each bit of a copy is flipped: that has to be found, and the other copy taken; with both damaged there is none. */
+#include <setjmp.h>
+#include <stdio.h>
+#include <stdlib.h>
+#include <string.h>
+
+#include "keep.h"
+
+enum { LISTS = 2, CALLS = 200, WALK = 4000, SAMPLES = 5000, COPY_BITS = KEEP_COPY_WORDS * 64, MOST_FAILURES = 20 };
+
+#define NEVER SIZE_MAX
+
+/* The memory that keeps, and the store at which the power fails, with the bits of it that are stored nevertheless. */
+static uint64_t kept[KEEP_WORDS];
+static size_t stores, cut_at = NEVER;
+static uint64_t stored_bits;
+static jmp_buf power_fails;
+
+static unsigned long calls, refusals, cuts, flips, failures;
+
+uint64_t keep_load(size_t place)
+{
+    return kept[place];
+}
+
+void keep_store(size_t place, uint64_t word)
+{
+    uint64_t bits = stores == cut_at ? stored_bits : UINT64_MAX;
+    kept[place] = (kept[place] & ~bits) | (word & bits);
+    if (stores++ == cut_at)
+        longjmp(power_fails, 1);
+}
+
+static void expect(bool holds, const char *what, size_t at)
+{
+    if (holds)
+        return;
+    fprintf(stderr, "try_keep: failed: %s (at %zu)\n", what, at);
+    if (++failures < MOST_FAILURES)
+        return;
+    fprintf(stderr, "try_keep: %lu failures, no more are looked for\n", failures);
+    exit(1);
+}
+
+/* The next random number (splitmix64), and one below a limit. */
+static uint64_t drawn(void)
+{
+    static uint64_t state = 16;
+    uint64_t x = state += 0x9e3779b97f4a7c15;
+    x = (x ^ x >> 30) * 0xbf58476d1ce4e5b9;
+    x = (x ^ x >> 27) * 0x94d049bb133111eb;
+    return x ^ x >> 31;
+}
+
+static uint64_t drawn_below(uint64_t limit)
+{
+    return drawn() % limit;
+}
+
+/* A call: a fresh meter, the analysis of a record of `length` bytes, or the metering of a volume. */
+struct call {
+    enum { FRESH, ANALYSIS, METERING } kind;
+    size_t stream, length;
+    uint64_t volume;
+    uint8_t record[LOONSTOOL_RECORD_BYTES(1)];
+};
+
+static const struct call fresh = {.kind = FRESH};
+
+/* Methane alone, some ppm off the whole: most records are accepted, some are refused by 1, 4, 9 and 14. */
+static void draw_record(struct call *call)
+{
+    static const uint8_t pairs[8][2] = {{15, 15}, {15, 15}, {15, 15}, {15, 15}, {15, 15}, {25, 20}, {0, 0}, {25, 15}};
+    const uint8_t *pair = pairs[drawn_below(8)];
+    uint32_t fraction = (uint32_t)(999890 + drawn_below(221));
+    const uint8_t head[] = {'G', 'C', 'R', 1, 0, pair[0], pair[1], 1, 1};
+    memcpy(call->record, head, sizeof head);
+    memcpy(call->record + sizeof head, &fraction, sizeof fraction); /* x86-64 has the least significant byte first too */
+    call->length = drawn_below(10) == 0 ? 7 : sizeof call->record;
+}
+
+static struct call draw_call(void)
+{
+    const uint64_t volumes[] = {0, 1, drawn_below(10000001), drawn_below(10000001), 10000000, 10000001};
+    struct call call = {.kind = drawn_below(5) < 2 ? ANALYSIS : METERING, .stream = drawn_below(LOONSTOOL_STREAMS + 1)};
+    call.volume = volumes[drawn_below(sizeof volumes / sizeof *volumes)];
+    draw_record(&call);
+    return call;
+}
+
+/* The call on the meter that is kept. */
+static uint8_t on_kept(struct keep *keep, const struct call *call)
+{
+    switch (call->kind) {
+    case ANALYSIS:
+        return keep_analysis(keep, call->stream, call->record, call->length);
+    case METERING:
+        return keep_metering(keep, call->stream, call->volume);
+    default:
+        keep_fresh(keep);
+        return LOONSTOOL_ACCEPTED;
+    }
+}
+
+/* The call on a meter that is not. */
+static uint8_t on_plain(struct loonstool_meter *meter, const struct call *call)
+{
+    switch (call->kind) {
+    case ANALYSIS:
+        return loonstool_meter_analysis(meter, call->stream, call->record, call->length);
+    case METERING:
+        return loonstool_meter_metering(meter, call->stream, call->volume);
+    default:
+        loonstool_meter_fresh(meter);
+        return LOONSTOOL_ACCEPTED;
+    }
+}
+
+static bool same(const struct loonstool_meter *a, const struct loonstool_meter *b)
+{
+    return memcmp(a, b, sizeof *a) == 0;
+}
+
+/* What a restart finds, and the meter. */
+static enum keep_found restart(struct loonstool_meter *meter)
+{
+    struct keep keep;
+    enum keep_found found = keep_open(&keep);
+    memcpy(meter, kept + keep.newer * KEEP_COPY_WORDS + 1, sizeof *meter);
+    return found;
+}
+
+/* A restart, and the call with the power failing at a store; how many stores there were before that. */
+static size_t cut(const struct call *call, size_t at, uint64_t bits)
+{
+    struct keep keep;
+    enum keep_found found = keep_open(&keep);
+    expect(found != KEEP_NONE || call->kind == FRESH, "a restart finds a meter", at);
+    stores = 0;
+    cut_at = at;
+    stored_bits = bits;
+    if (setjmp(power_fails) == 0)
+        expect(on_kept(&keep, call) != KEEP_LOST, "the newer copy holds", at);
+    cut_at = NEVER;
+    cuts += at != NEVER;
+    return stores;
+}
+
+/* The power fails a second time, at each store of the call made again. */
+static void try_second_cuts(const struct call *call, const struct loonstool_meter *before, const struct loonstool_meter *after)
+{
+    uint64_t image[KEEP_WORDS];
+    struct loonstool_meter found;
+    memcpy(image, kept, sizeof image);
+    size_t count = cut(call, NEVER, 0);
+    for (size_t at = 0; at <= count; at++) {
+        memcpy(kept, image, sizeof image);
+        cut(call, at, 0);
+        expect(restart(&found) == KEEP_WHOLE, "after two cuts nothing is damaged", at);
+        expect(same(&found, at < count ? before : after), "two cuts leave the meter before the call, or after it", at);
+    }
+}
+
+/* The power fails at each store of a call, of which there are `count`, and after the last. */
+static void try_cuts(const struct call *call, const struct loonstool_meter *before, const struct loonstool_meter *after, size_t count)
+{
+    const uint64_t bits[] = {0, 0xff, UINT32_MAX, ~(uint64_t)UINT32_MAX, 0xffULL << 56, drawn(), drawn(), drawn()};
+    uint64_t image[KEEP_WORDS];
+    struct loonstool_meter found;
+    memcpy(image, kept, sizeof image);
+    for (size_t at = 0; at <= count; at++) {
+        for (size_t i = 1; i < sizeof bits / sizeof *bits; i++) {
+            memcpy(kept, image, sizeof image);
+            cut(call, at, bits[i]);
+            expect(restart(&found) != KEEP_NONE, "a cut within a store leaves a meter", at);
+            expect(same(&found, before) || same(&found, after), "a cut within a store leaves the meter before the call, or after it", at);
+        }
+        memcpy(kept, image, sizeof image);
+        cut(call, at, 0);
+        expect(restart(&found) == KEEP_WHOLE, "after a cut nothing is damaged", at);
+        expect(same(&found, at < count ? before : after), "a cut leaves the meter before the call, or after it", at);
+        if (call->kind != FRESH && at < count)
+            try_second_cuts(call, before, after);
+    }
+    memcpy(kept, image, sizeof image);
+}
+
+/* Every stream's readings are those of a meter. */
+static void expect_readings(const struct keep *keep, const struct loonstool_meter *meter)
+{
+    for (size_t stream = 0; stream <= LOONSTOOL_STREAMS; stream++) {
+        struct loonstool_totals totals = {0, 0, 0}, kept_totals = {0, 0, 0};
+        uint64_t mean = 0, kept_mean = 0;
+        expect(keep_totals(keep, stream, &kept_totals) == loonstool_meter_totals(meter, stream, &totals), "the number of totals", stream);
+        expect(keep_mean(keep, stream, &kept_mean) == loonstool_meter_mean(meter, stream, &mean), "the number of a mean", stream);
+        expect(memcmp(&kept_totals, &totals, sizeof totals) == 0 && kept_mean == mean, "readings", stream);
+    }
+}
+
+/* Makes a call, cut at each store and then whole, on the kept meter and on `newer`; what `newer` was is `older` then. */
+static void try_call(const struct call *call, struct loonstool_meter *newer, struct loonstool_meter *older)
+{
+    uint64_t image[KEEP_WORDS];
+    struct keep keep;
+    struct loonstool_meter after = *newer, found;
+    uint8_t number = on_plain(&after, call);
+    memcpy(image, kept, sizeof image);
+    size_t count = cut(call, NEVER, 0);
+    memcpy(kept, image, sizeof image);
+    calls++;
+    if (number == LOONSTOOL_ACCEPTED)
+        try_cuts(call, newer, &after, count);
+
+    expect(keep_open(&keep) == KEEP_WHOLE, "nothing is damaged", calls);
+    expect(on_kept(&keep, call) == number, "the number of a call", calls);
+    expect(restart(&found) == KEEP_WHOLE && same(&found, &after), "the meter after a call", calls);
+    expect_readings(&keep, &after);
+    if (number != LOONSTOOL_ACCEPTED) {
+        refusals++;
+        expect(count == 0 && memcmp(kept, image, sizeof image) == 0, "a refused call stores nothing", calls);
+        return;
+    }
+    *older = call->kind == FRESH ? after : *newer;
+    *newer = after;
+}
+
+static void flip(size_t copy, size_t bit)
+{
+    kept[copy * KEEP_COPY_WORDS + bit / 64] ^= (uint64_t)1 << bit % 64;
+}
+
+/* Both copies are damaged, and the one that keep_open found before: no call and no restart makes a meter of them. */
+static void expect_none(struct keep *keep, const struct call *call, size_t bit)
+{
+    uint64_t image[KEEP_WORDS];
+    struct loonstool_meter found;
+    memcpy(image, kept, sizeof image);
+    expect(on_kept(keep, call) == KEEP_LOST, "a call on a damaged copy", bit);
+    expect(restart(&found) == KEEP_NONE, "both copies damaged", bit);
+    expect(memcmp(kept, image, sizeof image) == 0, "nothing is stored where the meter is lost", bit);
+}
+
+/* Each bit of a copy flips, alone and with one of the other copy: the other one is taken, or none. */
+static void try_flips(const struct loonstool_meter *newer, const struct loonstool_meter *older)
+{
+    const struct call call = {.kind = METERING};
+    struct keep keep;
+    struct loonstool_meter found;
+    expect(keep_open(&keep) == KEEP_WHOLE, "nothing is damaged", 0);
+    size_t other = 1 - keep.newer;
+    for (size_t bit = 0; bit < COPY_BITS; bit++) {
+        size_t other_bit = drawn_below(COPY_BITS);
+        flip(keep.newer, bit);
+        expect(restart(&found) == KEEP_DAMAGED && same(&found, older), "a flipped bit of the newer copy", bit);
+        flip(other, other_bit);
+        expect_none(&keep, &call, bit);
+        flip(other, other_bit);
+        flip(keep.newer, bit);
+        flip(other, bit);
+        expect(restart(&found) == KEEP_DAMAGED && same(&found, newer), "a flipped bit of the older copy", bit);
+        flip(other, bit);
+        flips += 3;
+    }
+}
+
+/* Two or three bits of the newer copy flip, chosen at random. */
+static void try_several_flips(const struct loonstool_meter *older)
+{
+    struct keep keep;
+    struct loonstool_meter found;
+    expect(keep_open(&keep) == KEEP_WHOLE, "nothing is damaged", 0);
+    for (size_t i = 0; i < SAMPLES; i++) {
+        size_t a = drawn_below(COPY_BITS), b = drawn_below(COPY_BITS), c = drawn_below(COPY_BITS), count = 2 + i % 2;
+        if (a == b || a == c || b == c)
+            continue;
+        const size_t bits[] = {a, b, c};
+        for (size_t k = 0; k < count; k++)
+            flip(keep.newer, bits[k]);
+        expect(restart(&found) == KEEP_DAMAGED && same(&found, older), "two or three flipped bits of the newer copy", a);
+        for (size_t k = 0; k < count; k++)
+            flip(keep.newer, bits[k]);
+        flips += count;
+    }
+}
+
+/* With the newer copy damaged, the calls go on from the older one, and after the first that is accepted both are whole. */
+static void try_going_on(struct loonstool_meter *newer, struct loonstool_meter *older)
+{
+    struct keep keep;
+    struct call call = {.kind = METERING, .volume = 1};
+    expect(keep_open(&keep) == KEEP_WHOLE, "nothing is damaged", 0);
+    flip(keep.newer, 64);
+    *newer = *older;
+    expect(keep_open(&keep) == KEEP_DAMAGED, "the newer copy is damaged", 0);
+    uint8_t number = on_plain(newer, &call);
+    while (number != LOONSTOOL_ACCEPTED && call.stream < LOONSTOOL_STREAMS) {
+        expect(on_kept(&keep, &call) == number, "a refusal with one copy", call.stream);
+        call.stream++;
+        number = on_plain(newer, &call);
+    }
+    expect(on_kept(&keep, &call) == LOONSTOOL_ACCEPTED, "going on from the older copy", call.stream);
+    try_call(&call, newer, older);
+}
+
+/* Calls most of which are cut, one after the other: whatever a cut leaves, the next call begins with it. */
+static void try_walk(struct loonstool_meter *meter)
+{
+    for (size_t i = 0; i < WALK; i++) {
+        struct call call = drawn_below(200) == 0 ? fresh : draw_call();
+        struct loonstool_meter after = *meter, found;
+        uint64_t bits = drawn_below(2) ? drawn() & drawn() : 0;
+        uint8_t number = on_plain(&after, &call);
+        size_t count = cut(&call, drawn_below(12), bits);
+        expect(number == LOONSTOOL_ACCEPTED || count == 0, "a refused call stores nothing", i);
+        expect(restart(&found) != KEEP_NONE, "cuts in a row leave a meter", i);
+        expect(same(&found, meter) || same(&found, &after), "cuts in a row leave the meter before the last call, or after it", i);
+        *meter = found;
+    }
+}
+
+/* A memory that was never used has no meter, and a cut of the first call leaves none or a fresh one. */
+static void try_unused(uint64_t word)
+{
+    uint64_t image[KEEP_WORDS];
+    struct loonstool_meter zero, found;
+    loonstool_meter_fresh(&zero);
+    for (size_t i = 0; i < KEEP_WORDS; i++)
+        image[i] = word;
+    memcpy(kept, image, sizeof image);
+    size_t count = cut(&fresh, NEVER, 0);
+    for (size_t at = 0; at <= count; at++) {
+        memcpy(kept, image, sizeof image);
+        expect(restart(&found) == KEEP_NONE, "a memory that was never used", at);
+        cut(&fresh, at, 0);
+        expect(restart(&found) == KEEP_NONE || same(&found, &zero), "a cut of the first call", at);
+    }
+    expect(restart(&found) == KEEP_WHOLE && same(&found, &zero), "a fresh meter", count);
+}
+
+int main(void)
+{
+    struct loonstool_meter newer, older;
+    try_unused(UINT64_MAX);
+    try_unused(0xa5a5a5a5a5a5a5a5);
+    try_unused(0);
+    loonstool_meter_fresh(&newer);
+    for (size_t list = 0; list < LISTS; list++) {
+        try_call(&fresh, &newer, &older);
+        for (size_t i = 0; i < CALLS; i++) {
+            struct call call = draw_call();
+            try_call(&call, &newer, &older);
+        }
+        try_flips(&newer, &older);
+        try_several_flips(&older);
+        try_going_on(&newer, &older);
+        try_walk(&newer);
+        cut(&fresh, NEVER, 0);
+        loonstool_meter_fresh(&newer);
+    }
+    printf("%lu calls, %lu of them refused, %lu cuts, %lu flipped bits, %lu failed\n", calls, refusals, cuts, flips, failures);
+    return failures != 0;
+}
