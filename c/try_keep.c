@@ -288,6 +288,35 @@ static void try_several_flips(const struct loonstool_meter *older)
     }
 }
 
+/* The CRC-32 of all words of a copy but the last, a bit at a time. */
+static uint64_t crc_of(const uint64_t *copy)
+{
+    uint32_t crc = UINT32_MAX;
+    for (size_t bit = 0; bit < COPY_BITS - 64; bit++) {
+        uint32_t low = (crc ^ (uint32_t)(copy[bit / 64] >> bit % 64)) & 1;
+        crc = crc >> 1 ^ (low ? 0xedb88320 : 0);
+    }
+    return ~crc;
+}
+
+/* A newer copy with the right checksum, whose words hold no meter, is not taken; nor does a call take another copy than keep_open found. */
+static void try_wrong_copies(const struct loonstool_meter *newer, const struct loonstool_meter *older)
+{
+    struct keep keep;
+    struct loonstool_meter found;
+    expect(keep_open(&keep) == KEEP_WHOLE, "nothing is damaged", 0);
+    uint64_t *copy = kept + keep.newer * KEEP_COPY_WORDS, first = copy[1];
+    copy[1] = 2;
+    expect(copy[KEEP_COPY_WORDS - 1] != crc_of(copy), "the checksum of other words", 0);
+    copy[KEEP_COPY_WORDS - 1] = crc_of(copy);
+    expect(restart(&found) == KEEP_DAMAGED && same(&found, older), "words that hold no meter", 0);
+    copy[1] = first;
+    copy[KEEP_COPY_WORDS - 1] = crc_of(copy);
+    expect(restart(&found) == KEEP_WHOLE && same(&found, newer), "the checksum is the CRC-32", 0);
+    keep.newer = 1 - keep.newer;
+    expect(keep_metering(&keep, 0, 0) == KEEP_LOST, "a call on the older copy", 0);
+}
+
 /* With the newer copy damaged, the calls go on from the older one, and after the first that is accepted both are whole. */
 static void try_going_on(struct loonstool_meter *newer, struct loonstool_meter *older)
 {
@@ -357,6 +386,7 @@ int main(void)
         }
         try_flips(&newer, &older);
         try_several_flips(&older);
+        try_wrong_copies(&newer, &older);
         try_going_on(&newer, &older);
         try_walk(&newer);
         cut(&fresh, NEVER, 0);

@@ -1,7 +1,8 @@
-/* Tries the library on bad input: null-length lists and buffers, unaligned bytes, records and buffers a byte short and shorter, and each
- * number of a record, after which all that was lent is as it was. What is lent, to be read or to be filled, ends where a page begins that may
- * not be touched (but for the tests of unaligned bytes, which move it by a byte at a time), so that a read or a write past it ends the
- * program. */
+/* Tries the library on bad input: null-length lists and buffers, unaligned bytes, records and buffers a byte short and shorter, streams and
+ * volumes far above their limits, and each number of a record and of the meter's calls, after which all that was lent is as it was; then
+ * loonstool_meter_check on every kind of damaged words. What is lent, to be read or to be filled, ends where a page begins that may not be
+ * touched (but for the tests of unaligned bytes, which move it by a byte at a time), so that a read or a write past it ends the program. So
+ * does a write to a meter during a call that only reads it. */
 #define _DEFAULT_SOURCE
 #include <stdio.h>
 #include <stdlib.h>
@@ -12,8 +13,22 @@
 #include "loonstool.h"
 
 _Static_assert(sizeof(struct loonstool_properties) == 6 * 8, "the library fills six numbers of 64 bits");
+_Static_assert(sizeof(struct loonstool_totals) == 3 * 8, "the library fills three numbers of 64 bits");
 
-enum { K1_BYTES = LOONSTOOL_RECORD_BYTES(8), ROOM = 300 };
+__extension__ typedef unsigned __int128 wide;
+
+enum { K1_BYTES = LOONSTOOL_RECORD_BYTES(8), K2_BYTES = LOONSTOOL_RECORD_BYTES(1), ROOM = 300, DRAWS = 20000 };
+
+/* The words of a stream. */
+enum { ANALYSED, COMBUSTION, METERING, Z, HS, HI, RHO, D, W, VOLUME, ENERGY_MJ, ENERGY_REST, WORDS };
+
+_Static_assert(WORDS == LOONSTOOL_STREAM_WORDS, "each word of a stream has a name");
+
+/* The highest that each word of a stream can be. */
+static const uint64_t highest[WORDS] = {1,         25,        20,        1000000000,   250000000,    250000000,
+                                        510000000, 390000000, 470000000, 999999999999, 249999999999, 999999999};
+
+static const uint8_t pairs[6][2] = {{15, 15}, {0, 0}, {15, 0}, {25, 0}, {20, 20}, {25, 20}};
 
 static const struct loonstool_properties k1 = {997709976, 38959473, 35144879, 74087496, 60459367, 50105024};
 
@@ -25,6 +40,12 @@ static uint8_t *combustion, *metering, *read_lines;
 static uint32_t *read_fractions;
 static size_t *count;
 static uint8_t *bytes_end;
+static struct loonstool_meter *meter;
+static struct loonstool_totals *totals;
+static uint64_t *mean;
+
+/* The meter as the last accepted call left it. */
+static struct loonstool_meter saved;
 
 /* What a call fills: where, and how many bytes. */
 struct part {
@@ -32,10 +53,10 @@ struct part {
     size_t size;
 };
 
-enum { PARTS = 6 };
+enum { PARTS = 8 };
 static struct part filled[PARTS];
 
-static unsigned checks, failures;
+static unsigned checks, failures, meters, damages;
 
 static void expect(int holds, const char *what, size_t at)
 {
@@ -56,6 +77,17 @@ static uint8_t *page_end(void)
         exit(2);
     }
     return pages + page;
+}
+
+/* Whether the page of the meter may be written. */
+static void let_write_meter(bool may)
+{
+    size_t page = (size_t)sysconf(_SC_PAGESIZE);
+    uint8_t *end = (uint8_t *)(meter + 1);
+    if (mprotect(end - page, page, may ? PROT_READ | PROT_WRITE : PROT_READ) != 0) {
+        perror("try_library: mprotect");
+        exit(2);
+    }
 }
 
 /* The last `size` bytes of a page. */
@@ -101,6 +133,13 @@ static uint8_t write_k1(uint8_t *buffer, size_t length)
     return loonstool_write(15, 15, lines, 8, fractions, 8, buffer, length);
 }
 
+/* A call of the meter gave its number, and left the meter and what was lent for an answer as they were. */
+static void expect_left(uint8_t given, uint8_t number, const char *what, size_t at)
+{
+    expect(given == number, what, at);
+    expect(memcmp(meter, &saved, sizeof saved) == 0 && all_marked(), what, at);
+}
+
 /* A record is refused by a number, and what was lent for the answer is as it was. */
 static void expect_refused(const uint8_t *bytes, size_t length, uint8_t number, const char *what)
 {
@@ -108,6 +147,8 @@ static void expect_refused(const uint8_t *bytes, size_t length, uint8_t number, 
     expect(loonstool_properties_of(bytes, length, properties) == number, what, length);
     expect(read_record(bytes, length) == number, what, length);
     expect(all_marked(), what, length);
+    for (size_t stream = 0; stream < LOONSTOOL_STREAMS; stream++)
+        expect_left(loonstool_meter_analysis(meter, stream, bytes, length), number, what, stream);
 }
 
 /* The record of K1 is accepted where it stands. */
@@ -236,6 +277,253 @@ static void try_pair(void)
     expect(*combustion == 25 && *metering == 20, "25/20 read", 0);
 }
 
+/* A call of the meter on a stream was accepted, and left every other stream as it was. */
+static void expect_accepted(uint8_t given, size_t stream, const char *what)
+{
+    expect(given == LOONSTOOL_ACCEPTED, what, stream);
+    for (size_t other = 0; other < LOONSTOOL_STREAMS; other++)
+        expect(other == stream || memcmp(meter->words[other], saved.words[other], sizeof saved.words[other]) == 0, what, other);
+    saved = *meter;
+}
+
+/* The record of methane alone, for a pair, at the end of a page. */
+static const uint8_t *methane_at(const uint8_t pair[2])
+{
+    const uint8_t k2[K2_BYTES] = {'G', 'C', 'R', 1, 0, pair[0], pair[1], 1, 1, 0x40, 0x42, 0x0f, 0};
+    return memcpy(bytes_end - K2_BYTES, k2, K2_BYTES);
+}
+
+static void make_fresh(void)
+{
+    memset(meter, 0xa5, sizeof *meter);
+    loonstool_meter_fresh(meter);
+    expect(all_are((const uint8_t *)meter, sizeof *meter, 0), "the words of a fresh meter", 0);
+    saved = *meter;
+}
+
+/* Totals and mean of a stream, whose meter may not be written meanwhile. */
+static void expect_readings(size_t stream, struct loonstool_totals right, uint64_t right_mean)
+{
+    let_write_meter(false);
+    expect(loonstool_meter_totals(meter, stream, totals) == LOONSTOOL_ACCEPTED, "totals", stream);
+    expect(loonstool_meter_mean(meter, stream, mean) == LOONSTOOL_ACCEPTED, "a mean", stream);
+    let_write_meter(true);
+    expect(memcmp(totals, &right, sizeof right) == 0, "the totals of methane", stream);
+    expect(*mean == right_mean, "the mean of methane", stream);
+    mark_filled();
+}
+
+static const uint64_t far_streams[] = {16, 17, 255, 256, 1ULL << 32, (1ULL << 32) + 3, 1ULL << 63, UINT64_MAX};
+static const uint64_t far_volumes[] = {10000001, 1ULL << 32, (1ULL << 32) + 1, 1ULL << 63, UINT64_MAX};
+
+enum { FAR_STREAMS = sizeof far_streams / sizeof *far_streams, FAR_VOLUMES = sizeof far_volumes / sizeof *far_volumes };
+
+/* 13, which comes before every other number. */
+static void try_far_streams(void)
+{
+    const uint8_t *k2 = methane_at(pairs[0]);
+    for (size_t i = 0; i < FAR_STREAMS; i++) {
+        size_t stream = far_streams[i];
+        expect_left(loonstool_meter_analysis(meter, stream, k2, K2_BYTES), LOONSTOOL_STREAM_ABOVE, "analysis, a stream above 15", stream);
+        expect_left(loonstool_meter_analysis(meter, stream, NULL, 0), LOONSTOOL_STREAM_ABOVE, "no bytes, a stream above 15", stream);
+        expect_left(loonstool_meter_metering(meter, stream, 0), LOONSTOOL_STREAM_ABOVE, "metering, a stream above 15", stream);
+        expect_left(loonstool_meter_metering(meter, stream, UINT64_MAX), LOONSTOOL_STREAM_ABOVE, "too much, a stream above 15", stream);
+        expect_left(loonstool_meter_totals(meter, stream, totals), LOONSTOOL_STREAM_ABOVE, "totals, a stream above 15", stream);
+        expect_left(loonstool_meter_mean(meter, stream, mean), LOONSTOOL_STREAM_ABOVE, "a mean, a stream above 15", stream);
+    }
+}
+
+/* 15, and 1 for a record of no bytes, on each stream. */
+static void try_far_volumes(void)
+{
+    for (size_t stream = 0; stream < LOONSTOOL_STREAMS; stream++) {
+        for (size_t i = 0; i < FAR_VOLUMES; i++)
+            expect_left(loonstool_meter_metering(meter, stream, far_volumes[i]), LOONSTOOL_VOLUME_ABOVE, "a volume too high", stream);
+        expect_left(loonstool_meter_analysis(meter, stream, NULL, 0), LOONSTOOL_RECORD_SHORT, "an analysis of no bytes, at NULL", stream);
+    }
+}
+
+/* The streams of a fresh meter, one after the other: 16 and 18, an analysis, 18 and 14, and the metering of K9 where the pair is K2's. */
+static void try_streams(void)
+{
+    for (size_t stream = 0; stream < LOONSTOOL_STREAMS; stream++) {
+        const uint8_t *pair = pairs[stream % 6], *other_pair = pairs[(stream + 1) % 6];
+        expect_left(loonstool_meter_metering(meter, stream, 0), LOONSTOOL_NO_ANALYSIS, "no analysis", stream);
+        expect_left(loonstool_meter_metering(meter, stream, 10000000), LOONSTOOL_NO_ANALYSIS, "no analysis", stream);
+        expect_left(loonstool_meter_mean(meter, stream, mean), LOONSTOOL_TOTAL_ZERO, "a mean without an analysis", stream);
+        expect_accepted(loonstool_meter_analysis(meter, stream, methane_at(pair), K2_BYTES), stream, "an analysis");
+        expect_left(loonstool_meter_mean(meter, stream, mean), LOONSTOOL_TOTAL_ZERO, "a mean at volume 0", stream);
+        expect_left(loonstool_meter_analysis(meter, stream, methane_at(other_pair), K2_BYTES), LOONSTOOL_PAIR_DIFFERS, "a pair", stream);
+        expect_accepted(loonstool_meter_metering(meter, stream, pair == pairs[0] ? 1000 : stream), stream, "metering");
+        if (pair == pairs[0])
+            expect_readings(stream, (struct loonstool_totals){1000, 37, 781616000}, 37781616);
+    }
+}
+
+/* Accepted calls where every other stream has an analysis and totals. */
+static void try_streams_again(void)
+{
+    for (size_t stream = 0; stream < LOONSTOOL_STREAMS; stream++) {
+        expect_accepted(loonstool_meter_analysis(meter, stream, methane_at(pairs[stream % 6]), K2_BYTES), stream, "another analysis");
+        expect_accepted(loonstool_meter_metering(meter, stream, 100 * stream), stream, "another metering");
+    }
+}
+
+/* A stream of methane at 15/15 up to 999,999,999,999 dm3, and 17 from there. */
+static void try_full_stream(void)
+{
+    const wide energy = (wide)highest[VOLUME] * 37781616;
+    expect_accepted(loonstool_meter_analysis(meter, 0, methane_at(pairs[0]), K2_BYTES), 0, "an analysis");
+    uint64_t left = highest[VOLUME] - meter->words[0][VOLUME];
+    while (left > 10000000 && loonstool_meter_metering(meter, 0, 10000000) == LOONSTOOL_ACCEPTED)
+        left -= 10000000;
+    saved = *meter;
+    expect(left < 10000000, "a stream that has less than 10,000,000 dm3 left", 0);
+    expect_left(loonstool_meter_metering(meter, 0, left + 1), LOONSTOOL_TOTAL_PASSES, "one past the last volume", 0);
+    expect_left(loonstool_meter_metering(meter, 0, 10000000), LOONSTOOL_TOTAL_PASSES, "the most past the last volume", 0);
+    expect_accepted(loonstool_meter_metering(meter, 0, left), 0, "the last volume");
+    expect_left(loonstool_meter_metering(meter, 0, 1), LOONSTOOL_TOTAL_PASSES, "a full stream", 0);
+    expect_left(loonstool_meter_metering(meter, 0, 10000001), LOONSTOOL_VOLUME_ABOVE, "15 before 17", 0);
+    expect_accepted(loonstool_meter_metering(meter, 0, 0), 0, "nothing more on a full stream");
+    const struct loonstool_totals full = {highest[VOLUME], (uint64_t)(energy / 1000000000), (uint64_t)(energy % 1000000000)};
+    expect_readings(0, full, 37781616);
+}
+
+/* Whether the words of a stream can be those of a meter: none is above its highest, the energy is at most volume x the ceiling of Hs, and
+ * without an analysis all are 0. */
+static bool can_be(const uint64_t *words)
+{
+    wide energy = (wide)words[ENERGY_MJ] * 1000000000 + words[ENERGY_REST];
+    bool permitted = false;
+    if (words[ANALYSED] == 0)
+        return all_are((const uint8_t *)words, WORDS * sizeof *words, 0);
+    for (size_t i = 0; i < WORDS; i++)
+        if (words[i] > highest[i])
+            return false;
+    for (size_t i = 0; i < 6; i++)
+        permitted |= words[COMBUSTION] == pairs[i][0] && words[METERING] == pairs[i][1];
+    return permitted && energy <= (wide)words[VOLUME] * highest[HS];
+}
+
+/* loonstool_meter_check gives what it should on the words as they are, and does not write to them. */
+static void expect_check(const char *what, size_t at)
+{
+    bool right = true;
+    for (size_t stream = 0; stream < LOONSTOOL_STREAMS; stream++)
+        right &= can_be(meter->words[stream]);
+    let_write_meter(false);
+    expect(loonstool_meter_check(meter) == right, what, at);
+    let_write_meter(true);
+    meters += right;
+    damages += !right;
+}
+
+/* A word of a stream set to what is at a limit, and each bit of it flipped. */
+static void try_word(size_t stream, size_t word)
+{
+    uint64_t *words = meter->words[stream], was = words[word];
+    const uint64_t values[] = {0, 1, 2, 15, 20, 25, was - 1, was + 1, highest[word], highest[word] + 1, 1000000000, UINT64_MAX};
+    for (size_t i = 0; i < sizeof values / sizeof *values; i++) {
+        words[word] = values[i];
+        expect_check("a word at a limit", stream * WORDS + word);
+    }
+    for (size_t bit = 0; bit < 64; bit++) {
+        words[word] = was ^ (uint64_t)1 << bit;
+        expect_check("a flipped bit", stream * WORDS + word);
+    }
+    words[word] = was;
+}
+
+/* The most energy that the volume of a stream can have, and one mJ, one MJ and one rest more. */
+static void try_most_energy(size_t stream)
+{
+    uint64_t *words = meter->words[stream];
+    const wide most = (wide)words[VOLUME] * highest[HS];
+    const uint64_t mj = (uint64_t)(most / 1000000000), rest = (uint64_t)(most % 1000000000);
+    const uint64_t energies[][2] = {{mj, rest}, {mj, rest + 1}, {mj, rest - 1}, {mj + 1, rest}, {mj + 1, 0}, {mj - 1, rest + 1000000000}};
+    for (size_t i = 0; i < sizeof energies / sizeof *energies; i++) {
+        words[ENERGY_MJ] = energies[i][0];
+        words[ENERGY_REST] = energies[i][1];
+        expect_check("the most energy", stream);
+    }
+    memcpy(words, saved.words[stream], sizeof saved.words[stream]);
+}
+
+static void try_pairs(size_t stream)
+{
+    uint64_t *words = meter->words[stream];
+    for (size_t i = 0; i < 32 * 32; i++) {
+        words[COMBUSTION] = i / 32;
+        words[METERING] = i % 32;
+        expect_check("a pair", i);
+    }
+    memcpy(words, saved.words[stream], sizeof saved.words[stream]);
+}
+
+/* Every kind of damage to the meter as it is. */
+static void try_damages(void)
+{
+    expect_check("words as the calls left them", 0);
+    expect(loonstool_meter_check(meter), "words as the calls left them", 0);
+    for (size_t stream = 0; stream < LOONSTOOL_STREAMS; stream++) {
+        for (size_t word = 0; word < WORDS; word++)
+            try_word(stream, word);
+        try_most_energy(stream);
+        try_pairs(stream);
+    }
+    expect(memcmp(meter, &saved, sizeof saved) == 0, "the damages were undone", 0);
+}
+
+/* Two words at a time, of random streams, set to the highest of some word, or to one more. */
+static void try_drawn_damages(void)
+{
+    uint64_t drawn = 16;
+    for (size_t i = 0; i < DRAWS; i++) {
+        for (size_t k = 0; k < 2; k++) {
+            drawn = drawn * 6364136223846793005 + 1442695040888963407;
+            meter->words[drawn >> 60][(drawn >> 32) % WORDS] = highest[(drawn >> 40) % WORDS] + (drawn >> 50) % 2;
+        }
+        expect_check("two words", i);
+        *meter = saved;
+    }
+}
+
+/* Words that hold no meter: analysis and totals stay within the stream and the memory lent for an answer. */
+static void try_other_words(uint8_t byte)
+{
+    memset(meter, byte, sizeof *meter);
+    expect_check("words that are all alike", byte);
+    saved = *meter;
+    for (size_t stream = 0; stream < LOONSTOOL_STREAMS; stream++) {
+        uint8_t number = loonstool_meter_totals(meter, stream, totals);
+        expect(number == LOONSTOOL_ACCEPTED && memcmp(meter, &saved, sizeof saved) == 0, "totals of other words", stream);
+        number = loonstool_meter_analysis(meter, stream, methane_at(pairs[0]), K2_BYTES);
+        expect(number == LOONSTOOL_ACCEPTED || number == LOONSTOOL_PAIR_DIFFERS, "an analysis on other words", stream);
+        memcpy(meter->words[stream], saved.words[stream], sizeof saved.words[stream]);
+        expect(memcmp(meter, &saved, sizeof saved) == 0, "an analysis on other words touches another stream", stream);
+    }
+}
+
+static void try_meter(void)
+{
+    mark_filled();
+    make_fresh();
+    try_far_streams();
+    try_far_volumes();
+    try_damages();
+    try_streams();
+    try_far_streams();
+    try_far_volumes();
+    try_numbers();
+    try_streams_again();
+    try_full_stream();
+    try_damages();
+    try_drawn_damages();
+    expect(meters > 1000 && damages > 1000, "words that hold a meter, and words that do not", meters);
+    try_other_words(0xff);
+    try_other_words(0x01);
+}
+
 static void lend(void)
 {
     const uint8_t k1_lines[8] = {1, 2, 3, 4, 5, 6, 52, 54};
@@ -249,18 +537,24 @@ static void lend(void)
     filled[3] = at_page_end(sizeof *count);
     filled[4] = at_page_end(LOONSTOOL_LINES * sizeof *read_lines);
     filled[5] = at_page_end(LOONSTOOL_LINES * sizeof *read_fractions);
+    filled[6] = at_page_end(sizeof *totals);
+    filled[7] = at_page_end(sizeof *mean);
     properties = filled[0].at;
     combustion = filled[1].at;
     metering = filled[2].at;
     count = filled[3].at;
     read_lines = filled[4].at;
     read_fractions = filled[5].at;
+    totals = filled[6].at;
+    mean = filled[7].at;
+    meter = lent(sizeof *meter);
 }
 
 int main(void)
 {
     uint8_t k1_bytes[K1_BYTES];
     lend();
+    make_fresh();
     expect(write_k1(bytes_end - K1_BYTES, K1_BYTES) == LOONSTOOL_ACCEPTED, "K1", 0);
     memcpy(k1_bytes, bytes_end - K1_BYTES, K1_BYTES);
     try_null_lengths();
@@ -269,6 +563,7 @@ int main(void)
     try_long(k1_bytes);
     try_numbers();
     try_pair();
+    try_meter();
     printf("%u checks, %u failed\n", checks, failures);
     return failures != 0;
 }
