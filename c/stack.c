@@ -1,5 +1,5 @@
-/* Prints how much stack each function takes on a record of 55 entries, and fails where one takes more than the header says. A call runs on a
- * stack of its own that was filled with a byte before; what is not that byte any more was taken. */
+/* Prints how much stack each function takes, on a record of 55 entries, and fails where one takes more than the header says. A call runs on
+ * a stack of its own that was filled with a byte before; what is not that byte any more was taken. */
 #define _GNU_SOURCE
 #include <stdio.h>
 #include <stdlib.h>
@@ -15,6 +15,9 @@ static struct loonstool_properties properties;
 static uint8_t lines[LOONSTOOL_LINES], read_lines[LOONSTOOL_LINES], bytes[BYTES], combustion, metering;
 static uint32_t fractions[LOONSTOOL_LINES], read_fractions[LOONSTOOL_LINES];
 static size_t count;
+static struct loonstool_meter meter;
+static struct loonstool_totals totals;
+static uint64_t mean;
 static uint8_t number;
 
 static void nothing(void)
@@ -34,6 +37,37 @@ static void read_record(void)
 static void write_record(void)
 {
     number = loonstool_write(15, 15, lines, LOONSTOOL_LINES, fractions, LOONSTOOL_LINES, bytes, BYTES);
+}
+
+static void meter_fresh(void)
+{
+    loonstool_meter_fresh(&meter);
+    number = LOONSTOOL_ACCEPTED;
+}
+
+static void meter_check(void)
+{
+    number = !loonstool_meter_check(&meter);
+}
+
+static void meter_analysis(void)
+{
+    number = loonstool_meter_analysis(&meter, 15, bytes, BYTES);
+}
+
+static void meter_metering(void)
+{
+    number = loonstool_meter_metering(&meter, 15, 10000000);
+}
+
+static void meter_totals(void)
+{
+    number = loonstool_meter_totals(&meter, 15, &totals);
+}
+
+static void meter_mean(void)
+{
+    number = loonstool_meter_mean(&meter, 15, &mean);
 }
 
 static void fail(const char *what)
@@ -77,5 +111,11 @@ int main(void)
     int wrong = above("loonstool_write", write_record, LOONSTOOL_STACK_WRITE);
     wrong |= above("loonstool_read", read_record, LOONSTOOL_STACK_READ);
     wrong |= above("loonstool_properties_of", properties_of, LOONSTOOL_STACK_PROPERTIES_OF);
+    wrong |= above("loonstool_meter_fresh", meter_fresh, LOONSTOOL_STACK_METER_FRESH);
+    wrong |= above("loonstool_meter_analysis", meter_analysis, LOONSTOOL_STACK_METER_ANALYSIS);
+    wrong |= above("loonstool_meter_metering", meter_metering, LOONSTOOL_STACK_METER_METERING);
+    wrong |= above("loonstool_meter_totals", meter_totals, LOONSTOOL_STACK_METER_TOTALS);
+    wrong |= above("loonstool_meter_mean", meter_mean, LOONSTOOL_STACK_METER_MEAN);
+    wrong |= above("loonstool_meter_check", meter_check, LOONSTOOL_STACK_METER_CHECK);
     return wrong;
 }
