@@ -21,10 +21,11 @@ union copy {
 };
 
 _Static_assert(sizeof(union copy) == KEEP_COPY_WORDS * sizeof(uint64_t), "the parts of a copy are its words");
+_Static_assert(sizeof(union copy) * 8 <= 32768, "the checksum finds any three flipped bits");
 
-/* CRC-32 (that of Ethernet) of the counter and the meter, four bits a step, the least significant first. A flipped bit changes it, since
- * its polynomial divides no power of x. At this length, 12,352 bits and the 32 of the checksum, so do any two and any three flipped bits,
- * and any damage within 32 bits in a row. */
+/* CRC-32 (that of Ethernet) of the counter and the meter, four bits a step, the least significant first. It finds every flipped bit, since
+ * its polynomial divides no power of x, and any damage within 32 bits in a row; in up to 32,768 bits also any two and any three flipped
+ * bits. */
 static uint64_t checksum_of(const union copy *copy)
 {
     static const uint32_t steps[16] = {0x00000000, 0x1db71064, 0x3b6e20c8, 0x26d930ac, 0x76dc4190, 0x6b6b51f4, 0x4db26158, 0x5005713c,

@@ -135,7 +135,7 @@ static enum keep_found restart(struct loonstool_meter *meter)
     return found;
 }
 
-/* A restart, and the call with the power failing at a store; how many stores there were before that. */
+/* A restart, and the call with the power failing at a store, some of whose bits are stored; how many stores were begun. */
 static size_t cut(const struct call *call, size_t at, uint64_t bits)
 {
     struct keep keep;
@@ -169,12 +169,12 @@ static void try_second_cuts(const struct call *call, const struct loonstool_mete
 /* The power fails at each store of a call, of which there are `count`, and after the last. */
 static void try_cuts(const struct call *call, const struct loonstool_meter *before, const struct loonstool_meter *after, size_t count)
 {
-    const uint64_t bits[] = {0, 0xff, UINT32_MAX, ~(uint64_t)UINT32_MAX, 0xffULL << 56, drawn(), drawn(), drawn()};
+    const uint64_t bits[] = {0xff, UINT32_MAX, ~(uint64_t)UINT32_MAX, 0xffULL << 56, drawn(), drawn(), drawn()};
     uint64_t image[KEEP_WORDS];
     struct loonstool_meter found;
     memcpy(image, kept, sizeof image);
     for (size_t at = 0; at <= count; at++) {
-        for (size_t i = 1; i < sizeof bits / sizeof *bits; i++) {
+        for (size_t i = 0; i < sizeof bits / sizeof *bits; i++) {
             memcpy(kept, image, sizeof image);
             cut(call, at, bits[i]);
             expect(restart(&found) != KEEP_NONE, "a cut within a store leaves a meter", at);
@@ -234,7 +234,7 @@ static void flip(size_t copy, size_t bit)
     kept[copy * KEEP_COPY_WORDS + bit / 64] ^= (uint64_t)1 << bit % 64;
 }
 
-/* Both copies are damaged, and the one that keep_open found before: no call and no restart makes a meter of them. */
+/* Both copies are damaged: no call is made on the one that keep_open found before, a restart finds none, and nothing is stored. */
 static void expect_none(struct keep *keep, const struct call *call, size_t bit)
 {
     uint64_t image[KEEP_WORDS];
