@@ -117,7 +117,7 @@ struct loonstool_meter {
     uint64_t words[LOONSTOOL_STREAMS][LOONSTOOL_STREAM_WORDS];
 };
 
-/* The totals of a stream. The energy is of superior heat, exact: 10^9 x energy_mj + energy_rest mJ. */
+/* The totals of a stream. Its energy, of superior heat and without rounding, is 10^9 x energy_mj + energy_rest mJ. */
 struct loonstool_totals {
     uint64_t volume;      /* dm3, never above 999,999,999,999 */
     uint64_t energy_mj;   /* whole MJ */
