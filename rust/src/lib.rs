@@ -1,9 +1,26 @@
-//! Natural gas properties by ISO 6976:1995, from analysis records: safe functions over the proved static library (see
-//! `include/loonstool.h` in the repository, which also has the format of a record and its limits). The library is for x86-64.
+//! Gas metering for analysers by ISO 6976:1995: safe functions over the proved static library (see `include/loonstool.h` in the
+//! repository, which also has the format of an analysis record and its limits). The library is for x86-64.
 //!
-//! The exported functions take whatever bytes and numbers they are given. What they require of a caller is that pointers are valid
-//! for their lengths, aligned, and that what is filled overlaps nothing else. Rust's slices and `&mut` have all of that, so there is
-//! nothing left to test.
+//! A [`Meter`] adds up volume and energy of sixteen streams of natural gas:
+//!
+//! ```
+//! use loonstool::{Meter, Refusal};
+//!
+//! // Methane alone, at 15/15.
+//! let record = [0x47, 0x43, 0x52, 1, 0, 15, 15, 1, 1, 0x40, 0x42, 0x0F, 0];
+//! let mut meter = Meter::new();
+//! assert_eq!(meter.metering(0, 1_000), Err(Refusal::NO_ANALYSIS));
+//! meter.analysis(0, &record)?;
+//! meter.metering(0, 1_000)?;
+//!
+//! let totals = meter.totals(0)?;
+//! assert_eq!(totals.volume, 1_000); // dm³
+//! assert_eq!((totals.energy_mj, totals.energy_rest), (37, 781_616_000)); // MJ and mJ
+//! assert_eq!(meter.mean(0)?, 37_781_616); // J/m³
+//! # Ok::<(), Refusal>(())
+//! ```
+//!
+//! [`properties_of`] gives the six properties of a record, [`read`] and [`write()`] take it apart and put it together:
 //!
 //! ```
 //! let lines = [1];
@@ -14,13 +31,19 @@
 //! assert_eq!((properties.z, properties.hs), (998_001_910, 37_781_616));
 //! # Ok::<(), loonstool::Refusal>(())
 //! ```
+//!
+//! The exported functions take whatever bytes and numbers they are given. What they require of a caller is that pointers are valid
+//! for their lengths, aligned, and that what is filled or changed overlaps nothing else. Rust's slices and `&mut` have all of that. Two
+//! of them also require words that hold a meter; a [`Meter`] has no others. So there is nothing left to test.
 #![no_std]
 #![warn(missing_docs)]
 
+mod meter;
 mod refusal;
 
 use core::mem::{offset_of, size_of, MaybeUninit};
 
+pub use meter::{Meter, NotAMeter, Totals, Words, STREAMS, STREAM_WORDS};
 pub use refusal::Refusal;
 
 /// The lines of the component table, and the most entries that a record has.

@@ -16,7 +16,7 @@ macro_rules! refusals {
                 pub const $name: Refusal = Refusal { number: $number };
             )*
 
-            /// Every refusal with its name, in the order of the numbers. 13 to 18 belong to the meter, and no function here gives them.
+            /// Every refusal with its name, in the order of the numbers. The calls of a [`Meter`](crate::Meter) alone give 13 to 18.
             pub const ALL: &'static [(&'static str, Refusal)] = &[$((stringify!($name), Refusal::$name)),*];
 
             /// The name of its constant.
