@@ -1,11 +1,11 @@
-//! Document 01's cases K1 to K8 and each refusal number of a record and the
+//! Document 01's cases K1 to K9 and each refusal number of a record and the
 //! writer, on the library and the plain version; K10 on the plain version.
 
 mod cases;
 mod plain;
 
 use cases::{record, K1, K1_PROPERTIES, K2};
-use loonstool::{Analysis, Properties, Refusal};
+use loonstool::{Analysis, Properties, Refusal, Totals};
 use plain::table::TABLE;
 
 /// What both sides answer.
@@ -88,6 +88,27 @@ fn bytes_that_are_no_record() {
         assert_eq!(loonstool::read(&bytes), Err(refusal));
         assert_eq!(plain::properties_of(&bytes), Err(refusal.number()));
     }
+}
+
+#[test]
+fn k9_fresh_stream() {
+    let mut meter = plain::Meter::fresh();
+    assert_eq!(meter.metering(0, 1_000), Err(16));
+    assert_eq!(meter.analysis(0, &K2), Ok(()));
+    assert_eq!(meter.metering(0, 1_000), Ok(()));
+    assert_eq!(meter.totals(0), Ok((1_000, 37, 781_616_000)));
+    assert_eq!(meter.mean(0), Ok(37_781_616));
+    let mut meter = loonstool::Meter::default();
+    assert_eq!(meter.metering(0, 1_000), Err(Refusal::NO_ANALYSIS));
+    assert_eq!(meter.analysis(0, &K2), Ok(()));
+    assert_eq!(meter.metering(0, 1_000), Ok(()));
+    let totals = Totals {
+        volume: 1_000,
+        energy_mj: 37,
+        energy_rest: 781_616_000,
+    };
+    assert_eq!(meter.totals(0), Ok(totals));
+    assert_eq!(meter.mean(0), Ok(37_781_616));
 }
 
 #[test]

@@ -1,20 +1,20 @@
-//! Lists of calls of the meter: as crates/try_meter reads them, and what it prints for them.
+//! Calls of the meter and what meters answer to them; lists of calls as crates/try_meter reads them, and what it prints for them.
 
 // Each program that includes this module uses a part of it.
 #![allow(dead_code)]
 
 use crate::cases::{methane_and, record, K2};
 use crate::plain::{Meter, Tally};
-use std::fmt::Debug;
+use loonstool::{Refusal, Totals};
 
 /// A call in the words of crates/try_meter/src/main.rt: `a` is an analysis, `m` a metering call, `f` fills a stream, and `r` reads one.
 pub struct Call {
-    kind: u8,
-    stream: usize,
+    pub kind: u8,
+    pub stream: usize,
     /// dm³.
-    volume: u64,
-    title: &'static str,
-    record: Vec<u8>,
+    pub volume: u64,
+    pub title: &'static str,
+    pub record: Vec<u8>,
 }
 
 pub fn call(kind: u8, stream: usize, volume: u64) -> Call {
@@ -32,6 +32,52 @@ pub fn analysis(stream: usize, title: &'static str, record: &[u8]) -> Call {
         title,
         record: record.to_vec(),
         ..call(b'a', stream, 0)
+    }
+}
+
+/// What a meter answers to a call.
+#[derive(Debug, Clone, Copy, PartialEq)]
+pub enum Answer {
+    /// To an analysis or a metering call.
+    Changed(Result<(), u8>),
+    /// To a reading: totals as volume, whole MJ and rest, and the mean.
+    Read(Result<(u64, u64, u64), u8>, Result<u64, u8>),
+}
+
+/// What takes the calls `a`, `m` and `r`.
+pub trait Answers {
+    fn answer(&mut self, call: &Call) -> Answer;
+}
+
+macro_rules! answers {
+    ($($plain:ty),*) => {
+        $(impl Answers for $plain {
+            fn answer(&mut self, call: &Call) -> Answer {
+                let k = call.stream;
+                match call.kind {
+                    b'a' => Answer::Changed(self.analysis(k, &call.record)),
+                    b'm' => Answer::Changed(self.metering(k, call.volume)),
+                    _ => Answer::Read(self.totals(k), self.mean(k)),
+                }
+            }
+        })*
+    };
+}
+
+answers!(Meter, Tally);
+
+impl Answers for loonstool::Meter {
+    fn answer(&mut self, call: &Call) -> Answer {
+        let k = call.stream;
+        let three = |of: Totals| (of.volume, of.energy_mj, of.energy_rest);
+        match call.kind {
+            b'a' => Answer::Changed(self.analysis(k, &call.record).map_err(Refusal::number)),
+            b'm' => Answer::Changed(self.metering(k, call.volume).map_err(Refusal::number)),
+            _ => Answer::Read(
+                self.totals(k).map(three).map_err(Refusal::number),
+                self.mean(k).map_err(Refusal::number),
+            ),
+        }
     }
 }
 
@@ -68,39 +114,42 @@ pub fn input(list: &[Call]) -> Vec<u8> {
     bytes
 }
 
-/// What a fresh meter answers to a list. The tally answers the same, and no energy is further than 2 mJ per dm³ from the exact one.
+/// What a fresh meter answers to a list. The tally answers the same, and no energy is further than 2 mJ per dm³ from the exact one, no
+/// mean further than 3 J/m³.
 pub fn printed(list: &[Call]) -> String {
     let (mut meter, mut tally) = (Meter::fresh(), Tally::fresh());
     let mut text = String::new();
     for call in list {
         let (k, title, volume) = (call.stream, call.title, call.volume);
-        let mut metering = |volume| same(meter.metering(k, volume), tally.metering(k, volume));
-        match call.kind {
-            b'm' => text += &format!("metering {k} {volume}: {}\n", verdict(metering(volume))),
-            b'f' => (0..99_999).for_each(|_| _ = metering(10_000_000)),
-            b'a' => {
-                let record = &call.record;
-                let answer = same(meter.analysis(k, record), tally.analysis(k, record));
-                text += &format!("analysis {k}{title}: {}\n", verdict(answer));
-            }
-            _ => text += &reading(&meter, &tally, k),
+        let mut answer = |call| {
+            let answer = meter.answer(call);
+            assert_eq!(answer, tally.answer(call));
+            answer
+        };
+        if call.kind == b'f' {
+            let part = self::call(b'm', k, 10_000_000);
+            (0..99_999).for_each(|_| _ = answer(&part));
+            continue;
         }
+        text += &match answer(call) {
+            Answer::Read(totals, mean) => {
+                assert!(tally.is_near(k), "stream {k}: too far from exact");
+                reading(k, totals, mean)
+            }
+            Answer::Changed(given) if call.kind == b'm' => {
+                format!("metering {k} {volume}: {}\n", verdict(given))
+            }
+            Answer::Changed(given) => format!("analysis {k}{title}: {}\n", verdict(given)),
+        };
     }
     text
 }
 
-fn reading(meter: &Meter, tally: &Tally, k: usize) -> String {
-    assert!(tally.energy_is_near(k), "stream {k}: too far from exact");
-    let totals = same(meter.totals(k), tally.totals(k));
+fn reading(k: usize, totals: Result<(u64, u64, u64), u8>, mean: Result<u64, u8>) -> String {
     let totals = totals.map(|(volume, whole, rest)| format!("{volume} dm3, {whole} MJ {rest} mJ"));
-    let mean = same(meter.mean(k), tally.mean(k)).map(|mean| format!("{mean} J/m3"));
+    let mean = mean.map(|mean| format!("{mean} J/m3"));
     let [totals, mean] = [totals, mean].map(|answer| answer.unwrap_or_else(|n| verdict(Err(n))));
     format!("totals {k}: {totals}\nmean {k}: {mean}\n")
-}
-
-fn same<T: PartialEq + Debug>(of_meter: T, of_tally: T) -> T {
-    assert_eq!(of_meter, of_tally);
-    of_meter
 }
 
 /// The words for a call that is accepted or refused.

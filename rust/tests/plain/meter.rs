@@ -3,34 +3,34 @@
 use super::properties::{properties_of, six};
 
 const STREAMS: usize = 16;
-const GREATEST_VOLUME: u64 = 10_000_000;
-const GREATEST_TOTAL: u64 = 999_999_999_999;
+pub const GREATEST_VOLUME: u64 = 10_000_000;
+pub const GREATEST_TOTAL: u64 = 999_999_999_999;
 
 /// mJ in a MJ.
-const MEGAJOULE: u64 = 1_000_000_000;
+pub const MEGAJOULE: u64 = 1_000_000_000;
 
 /// The pair and the properties of a stream's last accepted analysis, Z to W,
 /// none of which passes 10^9.
 #[derive(Debug, Clone, Copy)]
-struct InForce {
-    pair: (u8, u8),
-    six: [u32; 6],
+pub struct InForce {
+    pub pair: (u8, u8),
+    pub six: [u32; 6],
 }
 
 #[derive(Debug, Clone, Copy)]
-struct Stream {
-    in_force: Option<InForce>,
+pub struct Stream {
+    pub in_force: Option<InForce>,
     /// dm³.
-    volume: u64,
+    pub volume: u64,
     /// Whole MJ.
-    energy: u64,
+    pub energy: u64,
     /// mJ past the whole MJ, below 10^9.
-    rest: u64,
+    pub rest: u64,
 }
 
 #[derive(Debug, Clone)]
 pub struct Meter {
-    streams: [Stream; STREAMS],
+    pub streams: [Stream; STREAMS],
 }
 
 /// A meter after a call that takes it by value, and the call's answer.

@@ -12,6 +12,7 @@ pub mod properties;
 pub mod record;
 pub mod table;
 pub mod tally;
+pub mod words;
 
 pub use meter::Meter;
 pub use properties::{properties_of, six};

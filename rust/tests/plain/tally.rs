@@ -77,9 +77,14 @@ impl Tally {
         mean.map(|mean| mean as u64).ok_or(18)
     }
 
-    /// Whether E of a stream is within 2 mJ per dm³ of X. A stream above 15 has neither.
-    pub fn energy_is_near(&self, stream: usize) -> bool {
-        let stream = self.streams.get(stream);
-        stream.is_none_or(|s| s.exact.is_within(2 * u128::from(s.volume), s.booked))
+    /// Whether E of a stream is within 2 mJ per dm³ of X, and its mean, where it has one, within 3 J/m³ of X / V. A stream above 15 has
+    /// neither.
+    pub fn is_near(&self, stream: usize) -> bool {
+        let mean = self.mean(stream).unwrap_or(0);
+        self.streams.get(stream).is_none_or(|s| {
+            let volume = u128::from(s.volume);
+            s.exact.is_within(2 * volume, s.booked)
+                && s.exact.is_within(3 * volume, u128::from(mean) * volume)
+        })
     }
 }
