@@ -8,6 +8,7 @@ use crate::plain::{Meter, Tally};
 use loonstool::{Refusal, Totals};
 
 /// A call in the words of crates/try_meter/src/main.rt: `a` is an analysis, `m` a metering call, `f` fills a stream, and `r` reads one.
+#[derive(Debug, Clone)]
 pub struct Call {
     pub kind: u8,
     pub stream: usize,

@@ -1,0 +1,264 @@
+//! Words of every kind of damage: the proved check accepts those that hold a meter by the plain version and no others, and a meter restored
+//! from what it accepts answers as the plain one. And calls with bad arguments, which are refused and change nothing.
+//!
+//! `cargo test --offline --release --test restored -- --nocapture` prints how many words were tried.
+
+mod calls;
+mod cases;
+mod plain;
+mod records;
+
+use calls::{analysis, call, Answer, Answers, Call};
+use cases::{every_line, record, K1, K2};
+use loonstool::{Meter, NotAMeter, Properties, Words, STREAMS, STREAM_WORDS};
+use plain::meter::{GREATEST_TOTAL, GREATEST_VOLUME, MEGAJOULE};
+use plain::words::{hold_a_meter, meter_of, words_of};
+use records::{Random, PAIRS};
+
+const SEED: u64 = 6976;
+
+/// Meters as their calls left them: fresh; with analyses, one of each pair; metered; full.
+fn meters() -> [Meter; 4] {
+    let fresh = Meter::new();
+    let mut analysed = fresh.clone();
+    for (stream, (combustion, metering)) in PAIRS.into_iter().enumerate() {
+        take(
+            &mut analysed,
+            &analysis(stream, "", &record(combustion, metering, &K1)),
+        );
+    }
+    take(
+        &mut analysed,
+        &analysis(15, "", &record(0, 0, &every_line())),
+    );
+    let mut metered = analysed.clone();
+    for (stream, volume) in [
+        (0, 0),
+        (1, 1),
+        (2, 27),
+        (3, 1_000),
+        (4, 9_999_999),
+        (15, GREATEST_VOLUME),
+    ] {
+        take(&mut metered, &call(b'm', stream, volume));
+    }
+    let mut full = metered.clone();
+    for stream in [0, 15] {
+        while let Ok(room @ 1..) = full
+            .totals(stream)
+            .map(|totals| GREATEST_TOTAL - totals.volume)
+        {
+            take(&mut full, &call(b'm', stream, room.min(GREATEST_VOLUME)));
+        }
+    }
+    [fresh, analysed, metered, full]
+}
+
+fn take(meter: &mut Meter, call: &Call) {
+    assert_eq!(meter.answer(call), Answer::Changed(Ok(())));
+}
+
+/// How many words were accepted and refused.
+#[derive(Default)]
+struct Counts {
+    accepted: u64,
+    refused: u64,
+}
+
+impl Counts {
+    /// Restores words, of which those of a stream are damaged.
+    fn restore(&mut self, words: &Words, stream: usize) {
+        let restored = Meter::from_words(*words);
+        assert_eq!(restored.is_ok(), hold_a_meter(words), "{words:?}");
+        match restored {
+            Ok(meter) => {
+                assert_eq!(meter.words(), words);
+                compare_calls(meter, stream);
+                self.accepted += 1;
+            }
+            Err(NotAMeter) => self.refused += 1,
+        }
+    }
+
+    fn print(&self, what: &str, least: u64) {
+        let Self { accepted, refused } = self;
+        println!("{what}: {accepted} accepted, {refused} refused");
+        assert!(accepted.min(refused) >= &least, "fewer than {least}");
+    }
+}
+
+/// Makes calls on a stream of a restored meter and on the plain meter of the same words.
+fn compare_calls(mut meter: Meter, stream: usize) {
+    let words = *meter.words();
+    let mut plain = meter_of(&words);
+    let volumes = [0, 1, GREATEST_VOLUME].map(|volume| call(b'm', stream, volume));
+    let analyses = [&K2[..], &record(0, 0, &K1)].map(|record| analysis(stream, "", record));
+    for call in volumes.iter().chain(&analyses).chain(&volumes) {
+        for call in [call, &self::call(b'r', stream, 0)] {
+            assert_eq!(meter.answer(call), plain.answer(call), "{words:?}");
+        }
+    }
+    assert_eq!(meter.words(), &words_of(&plain), "{words:?}");
+}
+
+/// Numbers on and past what limits a word, the temperatures among them.
+fn limits() -> Vec<u64> {
+    let ceilings = plain::six(&Properties::CEILINGS);
+    let greatest = [
+        1,
+        15,
+        20,
+        25,
+        GREATEST_VOLUME,
+        MEGAJOULE - 1,
+        GREATEST_TOTAL,
+    ];
+    let past = |limit: &u64| [*limit, limit + 1];
+    let on_and_past = greatest.iter().chain(&ceilings).flat_map(past);
+    on_and_past.chain([0, u64::MAX]).collect()
+}
+
+/// What a word may be damaged to.
+fn damages(word: u64) -> Vec<u64> {
+    let mut damages = limits();
+    damages.extend([word.wrapping_add(1), word.wrapping_sub(1)]);
+    damages.extend((0..64).map(|bit| word ^ (1 << bit)));
+    damages
+}
+
+#[test]
+fn one_word_damaged() {
+    let mut counts = Counts::default();
+    for meter in meters() {
+        for (stream, place) in places() {
+            for damage in damages(meter.words()[stream][place]) {
+                let mut words = *meter.words();
+                words[stream][place] = damage;
+                counts.restore(&words, stream);
+            }
+        }
+    }
+    counts.print("one word damaged", 5_000);
+}
+
+/// The stream and the place of every word.
+fn places() -> impl Iterator<Item = (usize, usize)> {
+    (0..STREAMS).flat_map(|stream| (0..STREAM_WORDS).map(move |place| (stream, place)))
+}
+
+#[test]
+fn two_words_exchanged() {
+    let mut counts = Counts::default();
+    for meter in meters() {
+        for (stream, place) in places() {
+            for other in 0..place {
+                let mut words = *meter.words();
+                words[stream].swap(place, other);
+                counts.restore(&words, stream);
+            }
+        }
+    }
+    counts.print("two words exchanged", 100);
+}
+
+#[test]
+fn some_words_damaged() {
+    let mut counts = Counts::default();
+    let (mut random, meters, limits) = (Random::new(SEED), meters(), limits());
+    for _ in 0..300_000 {
+        let mut words = *random.one_of(&meters).words();
+        let stream = random.index(STREAMS);
+        for _ in 0..2 + random.index(3) {
+            words[stream][random.index(STREAM_WORDS)] = *random.one_of(&limits);
+        }
+        counts.restore(&words, stream);
+    }
+    counts.print("some words of a stream damaged", 5_000);
+}
+
+/// The metered meter, as the plain version has it.
+fn metered() -> plain::Meter {
+    let [.., metered, _] = meters();
+    meter_of(metered.words())
+}
+
+/// A stream of it that is metered.
+const DAMAGED: usize = 3;
+
+#[test]
+fn every_pair() {
+    let mut counts = Counts::default();
+    let mut meter = metered();
+    for [combustion, metering] in (0..=u16::MAX).map(u16::to_le_bytes) {
+        let in_force = meter.streams[DAMAGED].in_force.as_mut();
+        in_force.expect("it has an analysis").pair = (combustion, metering);
+        counts.restore(&words_of(&meter), DAMAGED);
+    }
+    counts.print("every pair of two bytes", 6);
+    assert_eq!(counts.accepted, 6);
+}
+
+#[test]
+fn energy_at_its_bound() {
+    let mut counts = Counts::default();
+    let (mut meter, mut random) = (metered(), Random::new(SEED));
+    let some = (0..2_000).map(|_| random.below(GREATEST_TOTAL + 1));
+    for volume in (0..2_000).chain(some).chain([GREATEST_TOTAL]) {
+        let bound = u128::from(volume) * u128::from(Properties::CEILINGS.hs);
+        for energy in [bound.saturating_sub(1), bound, bound + 1] {
+            let mega = u128::from(MEGAJOULE);
+            let (whole, rest) = ((energy / mega) as u64, (energy % mega) as u64);
+            // The second is the same energy with a rest that is too great, where there is a whole MJ.
+            for (whole, rest) in [(whole, rest), (whole.saturating_sub(1), rest + MEGAJOULE)] {
+                let stream = &mut meter.streams[DAMAGED];
+                (stream.volume, stream.energy, stream.rest) = (volume, whole, rest);
+                counts.restore(&words_of(&meter), DAMAGED);
+            }
+        }
+    }
+    counts.print("energy at its bound", 1_000);
+}
+
+#[test]
+fn bad_arguments() {
+    // The last is a stream whose row, counted in bytes without its high bits, is that of stream 3.
+    let streams = [
+        STREAMS,
+        17,
+        256,
+        1 << 32,
+        usize::MAX - 15,
+        usize::MAX,
+        (1 << 59) + 3,
+    ];
+    let volumes = [
+        GREATEST_VOLUME + 1,
+        1 << 32,
+        u64::MAX - GREATEST_TOTAL,
+        u64::MAX,
+    ];
+    let bytes = [&[][..], &[0], &K2[..7], &K2[..12], &[255; 8], &[0; 1_000]];
+    let (mut numbers, mut refused) = ([false; 21], 0);
+    for mut meter in meters() {
+        let words = *meter.words();
+        let mut plain = meter_of(&words);
+        for stream in (0..STREAMS).chain(streams) {
+            let metering = volumes.map(|volume| call(b'm', stream, volume));
+            let analyses = bytes.map(|bytes| analysis(stream, "", bytes));
+            for call in metering.iter().chain(&analyses) {
+                let answer = meter.answer(call);
+                assert_eq!(answer, plain.answer(call));
+                let Answer::Changed(Err(number)) = answer else {
+                    panic!("{call:?} is accepted");
+                };
+                assert_eq!(meter.words(), &words);
+                numbers[usize::from(number)] = true;
+                refused += 1;
+            }
+            let reading = call(b'r', stream, 0);
+            assert_eq!(meter.answer(&reading), plain.answer(&reading));
+        }
+    }
+    println!("bad arguments: {refused} calls refused");
+    assert!([1, 2, 6, 13, 15].iter().all(|number| numbers[*number]));
+}
