@@ -1,9 +1,12 @@
 //! include/loonstool.h has the names, numbers, conditions, parameters and ceilings of this crate; the conditions are those of the
 //! definitions in specs/, and the ceilings those that the proved program `try_properties` prints.
-use loonstool::{Properties, Refusal, LINES};
+use loonstool::{Properties, Refusal, LINES, STREAMS, STREAM_WORDS};
 
 const HEADER: &str = include_str!("../../include/loonstool.h");
-const WRAPPERS: &str = include_str!("../src/lib.rs");
+const WRAPPERS: [&str; 2] = [
+    include_str!("../src/lib.rs"),
+    include_str!("../src/meter.rs"),
+];
 const RECORDS: &str = include_str!("../../crates/records/specs/Conditions.antt");
 const METER: &str = include_str!("../../crates/meter/specs/Conditions.antt");
 const PRINTED: &str = include_str!("../../crates/try_properties/stdout");
@@ -71,25 +74,54 @@ fn name_in_rust(parameter: &str) -> &str {
     parameter.split(':').next().unwrap_or_default()
 }
 
-/// Name and parameters of each exported function as declared in Rust.
-fn declared_in_rust() -> Vec<(&'static str, Vec<&'static str>)> {
-    let (_, block) = WRAPPERS
-        .split_once("extern \"sysv64\" {\n")
-        .expect("the block of declarations");
-    let (block, _) = block.split_once("\n}\n").expect("its end");
-    block
-        .split("    fn ")
-        .filter_map(|declaration| declaration.split_once('('))
-        .map(|(function, rest)| (function, parameters(rest, name_in_rust)))
-        .collect()
+/// An exported function as a file of src/ declares it.
+struct Declared {
+    function: &'static str,
+    parameters: Vec<&'static str>,
+    /// The type of its answer in C.
+    answer: &'static str,
+}
+
+impl Declared {
+    /// From its text after `fn`.
+    fn from(text: &'static str) -> Option<Self> {
+        let (function, rest) = text.split_once('(')?;
+        let (_, answer) = rest.split_once(')')?;
+        let answer = match answer.trim() {
+            ";" => "void",
+            "-> bool;" => "bool",
+            "-> u8;" => "uint8_t",
+            other => panic!("{function} answers {other}"),
+        };
+        Some(Self {
+            function,
+            parameters: parameters(rest, name_in_rust),
+            answer,
+        })
+    }
+
+    fn in_file(text: &'static str) -> impl Iterator<Item = Self> {
+        let (_, block) = text
+            .split_once("extern \"sysv64\" {\n")
+            .expect("the block of declarations");
+        let (block, _) = block.split_once("\n}\n").expect("its end");
+        block.split("    fn ").filter_map(Self::from)
+    }
 }
 
 #[test]
 fn declarations() {
-    let declared = declared_in_rust();
-    assert_eq!(declared.len(), 3);
-    for (function, names) in declared {
-        let start = format!("\nuint8_t {function}(");
+    let declared: Vec<_> = WRAPPERS.into_iter().flat_map(Declared::in_file).collect();
+    // The header gives the stack of every function.
+    let exported = HEADER.matches("\n#define LOONSTOOL_STACK_").count();
+    assert_eq!(declared.len(), exported);
+    for Declared {
+        function,
+        parameters: names,
+        answer,
+    } in declared
+    {
+        let start = format!("\n{answer} {function}(");
         let (_, rest) = HEADER.split_once(&start).expect(function);
         assert_eq!(parameters(rest, name_in_c), names, "{function}");
     }
@@ -134,6 +166,32 @@ fn ceilings() {
 }
 
 #[test]
-fn lines() {
-    assert!(HEADER.contains(&format!("#define LOONSTOOL_LINES {LINES}\n")));
+fn sizes() {
+    for (name, size) in [
+        ("LINES", LINES),
+        ("STREAMS", STREAMS),
+        ("STREAM_WORDS", STREAM_WORDS),
+    ] {
+        assert!(HEADER.contains(&format!("\n#define LOONSTOOL_{name} {size}\n")));
+    }
+}
+
+/// The names of the fields of a struct, whose text begins as given and ends with a brace at the start of a line.
+fn fields(text: &'static str, start: &str, keyword: &str) -> Vec<&'static str> {
+    let (_, rest) = text.split_once(start).expect(start);
+    let (body, _) = rest.split_once("\n}").expect("its end");
+    let lines = body
+        .lines()
+        .filter_map(|line| line.trim().strip_prefix(keyword));
+    lines
+        .filter_map(|line| line.split([';', ':']).next())
+        .collect()
+}
+
+#[test]
+fn totals() {
+    let in_c = fields(HEADER, "struct loonstool_totals {", "uint64_t ");
+    let here = fields(WRAPPERS[1], "pub struct Totals {", "pub ");
+    assert_eq!(in_c, here);
+    assert_eq!(here.len(), 3);
 }
