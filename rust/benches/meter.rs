@@ -1,154 +1,133 @@
-//! Times 10,000,000 metering calls of the proved meter, an executable, against
-//! the same work with a plain meter, each in its own process. The proved meter
-//! is passed by value and returned, as document 01 has it, and has 896 bytes. So
-//! is and has the plain one, once with a call for each volume and once inlined,
-//! where the compiler finds that it can write in place; and last the plain meter
-//! is changed in place.
+//! Times the library's meter against the plain meter in one process, both
+//! changed in place, each side one call: the archive's functions are not
+//! inlined, and neither are those of the plain meter here.
 //!
 //! `cargo bench --offline --bench meter`
 
+#[path = "../tests/cases/mod.rs"]
+mod cases;
 #[path = "../tests/plain/mod.rs"]
 mod plain;
+mod timing;
 
-use plain::Meter;
+use cases::{every_line, record, K1};
+use loonstool::STREAMS;
+use plain::words::words_of;
 use std::hint::black_box;
-use std::process::Command;
-use std::time::Instant;
+use timing::{goal, percentile, ratios, Side, REPETITIONS};
 
-/// The executable, relative to the package folder.
-const PROVED: &str = "../target/bin/time_meter";
+/// Calls of a side in a repetition, about 1 to 5 ms.
+const METERING_CALLS: u32 = 500_000;
+const ANALYSIS_CALLS: u32 = 20_000;
 
-const RUNS: usize = 7;
-const STREAMS: usize = 16;
-const CALLS: u64 = 10_000_000;
-
-/// The calls, on a meter with its analyses.
-type Work = fn(Meter) -> Meter;
-
-/// The plain meters: what each is, the argument on which this program does the
-/// work itself, and the work.
-const PLAIN: [(&str, &str, Work); 3] = [
-    ("plain, by value, a call", "--by-call", by_call),
-    ("plain, by value, inlined", "--by-value", by_value),
-    ("plain, in place", "--in-place", in_place),
-];
+/// The metering calls that are repeated: each stream in turn, volumes below
+/// 1,000 dm³.
+const LIST: u64 = 2_000;
 
 fn main() {
-    let asked = std::env::args().nth(1).unwrap_or_default();
-    match PLAIN.iter().find(|(_, argument, _)| *argument == asked) {
-        Some((_, _, work)) => print!("{}", readings(&work(analysed()))),
-        None => compare(),
-    }
-}
-
-/// The record of a stream's analysis: methane alone, at 15/15 for even streams
-/// and at 0/0 for odd ones.
-fn analysis_of(stream: usize) -> [u8; 13] {
-    let temperature = if stream.is_multiple_of(2) { 15 } else { 0 };
-    let mut record = [0; 13];
-    plain::write(temperature, temperature, &[1], &[1_000_000], &mut record)
-        .expect("methane alone is accepted");
-    record
-}
-
-/// A meter with an analysis on each stream.
-fn analysed() -> Meter {
-    let mut meter = Meter::fresh();
-    for stream in 0..STREAMS {
-        let answer = meter.analysis(stream, &analysis_of(stream));
-        answer.expect("the analysis is accepted");
-    }
-    meter
-}
-
-/// The stream and the volume of a call, which the compiler does not foresee.
-fn call(i: u64) -> (usize, u64) {
-    black_box((i as usize % STREAMS, i % 1_000))
-}
-
-/// The calls on a meter in place.
-fn in_place(mut meter: Meter) -> Meter {
-    for (stream, volume) in (0..CALLS).map(call) {
-        let answer = meter.metering(stream, volume);
-        answer.expect("the volume is accepted");
-    }
-    meter
-}
-
-/// The calls on a meter by value and returned.
-fn by_value(mut meter: Meter) -> Meter {
-    for (stream, volume) in (0..CALLS).map(call) {
-        let changed = meter.metering_by_value(stream, volume);
-        changed.answer.expect("the volume is accepted");
-        meter = changed.meter;
-    }
-    meter
-}
-
-/// The same where each is a call of its own.
-fn by_call(mut meter: Meter) -> Meter {
-    for (stream, volume) in (0..CALLS).map(call) {
-        let changed = meter.metering_by_call(stream, volume);
-        changed.answer.expect("the volume is accepted");
-        meter = changed.meter;
-    }
-    meter
-}
-
-/// A line for each stream with its number, volume, MJ, rest and mean.
-fn readings(meter: &Meter) -> String {
-    let mut text = String::new();
-    for stream in 0..STREAMS {
-        let (volume, energy, rest) = meter.totals(stream).expect("the stream exists");
-        let mean = meter.mean(stream).expect("the volume is above 0");
-        text += &format!("{stream} {volume} {energy} {rest} {mean}\n");
-    }
-    text
-}
-
-/// Runs the sides in turn, each time another first, and prints their times.
-fn compare() {
-    let this = std::env::current_exe().expect("the path of this program");
-    let mut seconds = [const { Vec::new() }; 4];
-    let mut expected = None;
-    for turn in 0..4 * RUNS {
-        let side = (turn + turn / 4) % 4;
-        let (taken, text) = match side {
-            0 => timed(&mut Command::new(PROVED)),
-            _ => timed(Command::new(&this).arg(PLAIN[side - 1].1)),
-        };
-        seconds[side].push(taken);
-        assert_eq!(expected.get_or_insert_with(|| text.clone()), &text);
-    }
-    println!("{CALLS} metering calls, {RUNS} runs of each side, same text printed");
-    println!("a plain meter has {} bytes", size_of::<Meter>());
-    let [proved, plain @ ..] = seconds;
-    let proved = report("proved, by value", proved);
-    for ((name, ..), seconds) in PLAIN.into_iter().zip(plain) {
-        let ratio = proved / report(name, seconds);
-        println!("    ratio proved/plain {ratio:.3}");
-    }
-}
-
-/// Runs a command and gives its seconds and what it printed.
-fn timed(command: &mut Command) -> (f64, Vec<u8>) {
-    let start = Instant::now();
-    let output = command.output().expect("the program runs");
-    let seconds = start.elapsed().as_secs_f64();
-    assert!(output.status.success(), "{command:?}: {}", output.status);
-    (seconds, output.stdout)
-}
-
-/// Prints the median and the spread of a side in ms; gives the median.
-fn report(name: &str, mut seconds: Vec<f64>) -> f64 {
-    seconds.sort_unstable_by(f64::total_cmp);
-    let median = seconds[seconds.len() / 2];
+    println!("ns for a call, changed in place: medians of {REPETITIONS} repetitions for each side; ratio: median, and 10th to 90th of 100");
     println!(
-        "{name:<25} median {:.2} ms, {:.2} to {:.2} ms, {:.2} ns for a call",
-        median * 1e3,
-        seconds[0] * 1e3,
-        seconds[seconds.len() - 1] * 1e3,
-        median * 1e9 / CALLS as f64
+        "{:<32} {:>8} {:>8}   library / plain Rust",
+        "call", "library", "Rust"
     );
-    median
+    let metering = metering();
+    let [k1, all] = [("K1", K1.to_vec()), ("55 lines", every_line())]
+        .map(|(name, entries)| analysis(name, &record(15, 15, &entries)));
+    goal("metering at most 1.1 times plain Rust", metering, 1.1);
+    goal("analysis of K1 at most 1.1 times plain Rust", k1, 1.1);
+    goal(
+        "analysis of 55 lines at most 1.1 times plain Rust",
+        all,
+        1.1,
+    );
+}
+
+/// A meter of each side.
+struct Meters {
+    library: loonstool::Meter,
+    plain: plain::Meter,
+}
+
+impl Meters {
+    /// With K1 in force on each stream.
+    fn analysed() -> Self {
+        let mut meters = Self {
+            library: loonstool::Meter::new(),
+            plain: plain::Meter::fresh(),
+        };
+        let k1 = record(15, 15, &K1);
+        for stream in 0..STREAMS {
+            let accepted = meters.library.analysis(stream, &k1);
+            accepted.expect("K1 is accepted");
+            let accepted = meters.plain.analysis(stream, &k1);
+            accepted.expect("K1 is accepted");
+        }
+        meters
+    }
+
+    /// Prints the figures of both sides, whose meters are now the same, and
+    /// answers the ratio.
+    fn row(&self, name: &str, ns: &[Vec<f64>]) -> f64 {
+        assert_eq!(self.library.words(), &words_of(&self.plain));
+        let [library, plain] = [0, 1].map(|side| percentile(&ns[side], 50));
+        let shown = timing::shown(&ns[0], &ns[1]);
+        println!("{name:<32} {library:>8.2} {plain:>8.2}   {shown}");
+        ratios(&ns[0], &ns[1])[1]
+    }
+}
+
+#[inline(never)]
+fn metering_called(meter: &mut plain::Meter, stream: usize, volume: u64) -> Result<(), u8> {
+    meter.metering(stream, volume)
+}
+
+#[inline(never)]
+fn analysis_called(meter: &mut plain::Meter, stream: usize, bytes: &[u8]) -> Result<(), u8> {
+    meter.analysis(stream, bytes)
+}
+
+fn metering() -> f64 {
+    let list: Vec<_> = (0..LIST)
+        .map(|i| (i as usize % STREAMS, i % 1_000))
+        .collect();
+    let repeated = |calls: u32| black_box(&list).iter().cycle().take(calls as usize);
+    let mut meters = Meters::analysed();
+    let Meters { library, plain } = &mut meters;
+    let of_library: Side = Box::new(|calls| {
+        for (stream, volume) in repeated(calls) {
+            let accepted = library.metering(*stream, *volume);
+            accepted.expect("the volume is accepted");
+        }
+    });
+    let of_plain: Side = Box::new(|calls| {
+        for (stream, volume) in repeated(calls) {
+            let accepted = metering_called(plain, *stream, *volume);
+            accepted.expect("the volume is accepted");
+        }
+    });
+    let mut sides = [of_library, of_plain].map(|side| (METERING_CALLS, side));
+    let ns = timing::measure(&mut sides);
+    drop(sides);
+    meters.row("metering", &ns)
+}
+
+fn analysis(name: &str, record: &[u8]) -> f64 {
+    let mut meters = Meters::analysed();
+    let Meters { library, plain } = &mut meters;
+    let of_library: Side = Box::new(|calls| {
+        for _ in 0..calls {
+            let accepted = library.analysis(black_box(3), black_box(record));
+            accepted.expect("the record is accepted");
+        }
+    });
+    let of_plain: Side = Box::new(|calls| {
+        for _ in 0..calls {
+            let accepted = analysis_called(plain, black_box(3), black_box(record));
+            accepted.expect("the record is accepted");
+        }
+    });
+    let mut sides = [of_library, of_plain].map(|side| (ANALYSIS_CALLS, side));
+    let ns = timing::measure(&mut sides);
+    drop(sides);
+    meters.row(&format!("analysis, {name}"), &ns)
 }

@@ -7,25 +7,25 @@
 mod cases;
 #[path = "../tests/plain/mod.rs"]
 mod plain;
+mod timing;
 
 use cases::{every_line, record, K1};
 use loonstool::{Properties, Refusal};
 use std::hint::black_box;
 use std::time::{Duration, Instant};
-
-const REPETITIONS: usize = 101;
+use timing::{goal, percentile, ratios, Side, REPETITIONS};
 
 /// The time each side runs in one repetition.
 const SLICE: Duration = Duration::from_millis(2);
 
 const WARM_UP: Duration = Duration::from_millis(200);
 
-/// A side under test.
-type Side<'a> = &'a dyn Fn(&[u8]);
+/// A call under test.
+type Call = &'static dyn Fn(&[u8]);
 
 /// Library, plain Rust and C. Each is one call, whose six numbers are used one by one: the archive's functions are not inlined, and plain
 /// Rust is called through a pointer that the compiler does not know.
-const SIDES: [Side; 3] = [
+const SIDES: [Call; 3] = [
     &|record| used(loonstool::properties_of(record).map_err(Refusal::number)),
     &|record| used(through(plain::properties_of)(record)),
     &|record| {
@@ -75,11 +75,6 @@ fn main() {
     goal("55 lines at most 1.25 times plain Rust", all, 1.25);
 }
 
-fn goal(what: &str, ratio: f64, most: f64) {
-    let met = if ratio <= most { "met" } else { "not met" };
-    println!("goal: {what}: {ratio:.2}, {met}");
-}
-
 fn measured() -> [(&'static str, Vec<u8>); 4] {
     let annex_d = record(15, 15, &K1);
     let mut mark_differs = annex_d.clone();
@@ -117,17 +112,10 @@ fn row(name: &str, record: &[u8]) -> f64 {
         }
     }
     for other in &ns[1..] {
-        let [tenth, median, ninetieth] = ratios(&ns[0], other);
-        print!("   {median:>7.3} ({tenth:.3} to {ninetieth:.3})");
+        print!("   {}", timing::shown(&ns[0], other));
     }
     println!();
     ratios(&ns[0], &ns[1])[1]
-}
-
-/// The 10th, 50th and 90th percentile of the ratios of two sides.
-fn ratios(one: &[f64], other: &[f64]) -> [f64; 3] {
-    let ratios: Vec<f64> = one.iter().zip(other).map(|(a, b)| a / b).collect();
-    [10, 50, 90].map(|percent| percentile(&ratios, percent))
 }
 
 /// C gives the same six to a few parts in a million.
@@ -139,46 +127,30 @@ fn assert_near(six: &Properties, doubles: [f64; 6]) {
     }
 }
 
-/// The ns per call of each side in each repetition; the sides begin by turns.
-fn measure(record: &[u8], sides: &[Side]) -> Vec<Vec<f64>> {
-    let calls: Vec<u32> = sides
-        .iter()
-        .map(|side| calls_in_slice(record, side))
-        .collect();
-    let mut ns = vec![Vec::new(); sides.len()];
-    for repetition in 0..REPETITIONS {
-        for turn in 0..sides.len() {
-            let side = (repetition + turn) % sides.len();
-            ns[side].push(time(calls[side], record, sides[side]));
+/// The ns for a record of each call in each repetition.
+fn measure(record: &[u8], calls: &[Call]) -> Vec<Vec<f64>> {
+    let mut sides: Vec<_> = calls.iter().map(|call| on(record, *call)).collect();
+    timing::measure(&mut sides)
+}
+
+/// A call made on a record, as often as takes about one slice.
+fn on(record: &[u8], call: Call) -> (u32, Side<'_>) {
+    let mut side: Side = Box::new(move |calls| {
+        let call = black_box(call);
+        for _ in 0..calls {
+            call(black_box(record));
         }
-    }
-    ns
+    });
+    (calls_in_slice(&mut side), side)
 }
 
 /// Warms up, and gives the number of calls that take about one slice.
-fn calls_in_slice(record: &[u8], side: Side) -> u32 {
+fn calls_in_slice(side: &mut Side) -> u32 {
     const CALLS: u32 = 1_000;
     let start = Instant::now();
     let mut least = f64::INFINITY;
     while start.elapsed() < WARM_UP {
-        least = least.min(time(CALLS, record, side));
+        least = least.min(timing::time(CALLS, side));
     }
     (SLICE.as_nanos() as f64 / least) as u32 + 1
-}
-
-/// The ns per call over a number of calls.
-fn time(calls: u32, record: &[u8], side: Side) -> f64 {
-    let side = black_box(side);
-    let start = Instant::now();
-    for _ in 0..calls {
-        side(black_box(record));
-    }
-    start.elapsed().as_nanos() as f64 / f64::from(calls)
-}
-
-/// The given percentile.
-fn percentile(figures: &[f64], percent: usize) -> f64 {
-    let mut figures = figures.to_vec();
-    figures.sort_unstable_by(f64::total_cmp);
-    figures[(figures.len() - 1) * percent / 100]
 }
