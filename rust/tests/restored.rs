@@ -58,6 +58,16 @@ fn take(meter: &mut Meter, call: &Call) {
     assert_eq!(meter.answer(call), Answer::Changed(Ok(())));
 }
 
+#[test]
+fn as_calls_left_them() {
+    let meters = meters();
+    let fresh = words_of(&plain::Meter::fresh());
+    assert_eq!(meters[0].words(), &fresh);
+    for meter in meters {
+        assert_eq!(Meter::from_words(*meter.words()), Ok(meter));
+    }
+}
+
 /// How many words were accepted and refused.
 #[derive(Default)]
 struct Counts {
