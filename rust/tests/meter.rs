@@ -14,7 +14,7 @@ mod plain;
 mod random_calls;
 mod records;
 
-use calls::{analysis, call, Answer, Answers as _, Call};
+use calls::{analysis, call, Answer, Call, TakesCalls};
 use comparison::{hex, same, Answers, Comparison, Run};
 use loonstool::STREAMS;
 use plain::meter::{GREATEST_TOTAL, GREATEST_VOLUME};
@@ -62,6 +62,7 @@ fn compare_all(run: &Run) -> Result<Vec<String>, String> {
     while counts.calls < run.size {
         compare_list(&mut random, run, &mut counts)
             .map_err(|difference| format!("list {}: {difference}", counts.lists))?;
+        counts.lists += 1;
     }
     counts.print();
     run.print_due("of each answer of each call, and of words restored");
@@ -89,7 +90,6 @@ fn compare_list(random: &mut Random, run: &Run, counts: &mut Counts) -> Result<(
         counts.calls += 1;
         run.progress(counts.calls);
     }
-    counts.lists += 1;
     meters.compare_whole()
 }
 
@@ -188,6 +188,7 @@ impl Counts {
         let mut failures = self.answers.failures(run.due());
         for (what, count, due) in [
             ("words restored", self.restored, run.due()),
+            ("list with the tally", self.sampled, run.due_of_limits()),
             ("greatest total met", self.met, run.due_of_limits()),
             ("greatest total passed", self.passed, run.due_of_limits()),
         ] {

@@ -8,7 +8,7 @@ mod cases;
 mod plain;
 mod records;
 
-use calls::{analysis, call, Answer, Answers, Call};
+use calls::{analysis, call, Answer, Call, TakesCalls};
 use cases::{every_line, record, K1, K2};
 use loonstool::{Meter, NotAMeter, Properties, Words, STREAMS, STREAM_WORDS};
 use plain::meter::{GREATEST_TOTAL, GREATEST_VOLUME, MEGAJOULE};

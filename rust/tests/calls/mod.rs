@@ -46,13 +46,13 @@ pub enum Answer {
 }
 
 /// What takes the calls `a`, `m` and `r`.
-pub trait Answers {
+pub trait TakesCalls {
     fn answer(&mut self, call: &Call) -> Answer;
 }
 
-macro_rules! answers {
+macro_rules! takes_calls {
     ($($plain:ty),*) => {
-        $(impl Answers for $plain {
+        $(impl TakesCalls for $plain {
             fn answer(&mut self, call: &Call) -> Answer {
                 let k = call.stream;
                 match call.kind {
@@ -65,9 +65,9 @@ macro_rules! answers {
     };
 }
 
-answers!(Meter, Tally);
+takes_calls!(Meter, Tally);
 
-impl Answers for loonstool::Meter {
+impl TakesCalls for loonstool::Meter {
     fn answer(&mut self, call: &Call) -> Answer {
         let k = call.stream;
         let three = |of: Totals| (of.volume, of.energy_mj, of.energy_rest);
