@@ -1,10 +1,6 @@
 //! A comparison of the proved library with the plain version on much random
 //! input, as a program of its own: its arguments, how often each answer came,
 //! and what it prints.
-//!
-//! `--NAME N` says how many of what the comparison counts, `--seed S` the seed:
-//! a whole number, or `random` for one from the clock. The seed is printed, with
-//! the command that repeats the run.
 
 use std::fmt::{Debug, Write as _};
 use std::io::IsTerminal;
