@@ -41,8 +41,8 @@
  * c/keep.c does so, and c/try_keep.c cuts its power before every store.
  *
  * The archive is for x86-64 alone: ELF, System V calling convention, SSE2 registers, 128 bytes below the stack pointer in use. Without an
- * operating system SSE has to be switched on, and an interrupt handler leaves those 128 bytes and the xmm registers as they were. The one
- * function that it needs is memcpy.
+ * operating system SSE has to be switched on, and an interrupt handler leaves those 128 bytes and the xmm registers as they were. It needs
+ * memcpy and memset, and no other function.
  */
 #ifndef LOONSTOOL_H
 #define LOONSTOOL_H
@@ -97,13 +97,13 @@ enum loonstool_number {
 #define LOONSTOOL_LINES 55
 #define LOONSTOOL_RECORD_BYTES(n) (8 + 5 * (n))
 
-/* Bytes of stack that a call takes at most, the 128 below the stack pointer included, and beside memcpy's own. */
-#define LOONSTOOL_STACK_METER_FRESH 400
-#define LOONSTOOL_STACK_METER_CHECK 400
-#define LOONSTOOL_STACK_METER_ANALYSIS 600
-#define LOONSTOOL_STACK_METER_METERING 400
-#define LOONSTOOL_STACK_METER_TOTALS 400
-#define LOONSTOOL_STACK_METER_MEAN 400
+/* Bytes of stack that a call takes at most, the 128 below the stack pointer included, and beside those two functions' own. */
+#define LOONSTOOL_STACK_METER_FRESH 200
+#define LOONSTOOL_STACK_METER_CHECK 200
+#define LOONSTOOL_STACK_METER_ANALYSIS 400
+#define LOONSTOOL_STACK_METER_METERING 200
+#define LOONSTOOL_STACK_METER_TOTALS 200
+#define LOONSTOOL_STACK_METER_MEAN 200
 #define LOONSTOOL_STACK_PROPERTIES_OF 400
 #define LOONSTOOL_STACK_READ 1000
 #define LOONSTOOL_STACK_WRITE 400
