@@ -12,6 +12,7 @@ use lib.Seq.{drop-cons}
 use Rattle.records.specs.Conditions.{permitted}
 use Rattle.records.proofs.OrderLaws.{both}
 use Rattle.properties.specs.Chain.{Six}
+use Rattle.properties.specs.Bounds.{calorificLow, Floored}
 use Rattle.properties.specs.Quantities.{calorificBound, Bounded}
 use Rattle.meter.specs.declared.InForce.{InForce}
 use Rattle.meter.specs.declared.InForce.the-variants.{Nothing, Known}
@@ -25,7 +26,7 @@ use Rattle.meter.proofs.Kept.{fresh-stream-is-sound}
 use Rattle.lent_meter.specs.Words.{packedTotals, analysisWords, packedStream, sixIn, gasIn, totalsIn}
 use Rattle.lent_meter.specs.Lent.{LentRow, EachLent, Lent}
 use Rattle.lent_meter.proofs.Outcomes.{lent-row}
-use Rattle.lent_meter.specs.Check.{Tells, RegisterUnit, belowCeilings, atMost}
+use Rattle.lent_meter.specs.Check.{Tells, RegisterUnit, between, withinRanges, atMost}
 
 -- what is told by true, and by false
 pub tells-true : {P : Type 0} → P → Tells true P
@@ -109,31 +110,45 @@ module _ (u : ℕ) (e most : Register) (below : e .rest < u) (whole : most .rest
           let above : most .whole < e .whole = omega (arith, eqb-false (e .whole) (most .whole) i, ltb-false (e .whole) (most .whole) h) in
           tells-false (λ l. omega (arith, more above, l))
 
--- the register of a volume at a value up to a ceiling; `most` is volume × ceiling
-pub register-holds : (u ceiling v : ℕ) (e most : Register) → 0 < u → most ≡ booked u nothingBooked (v * ceiling) →
-    Tells (ltb (e .rest) u && atMost e most) (SoundRegister u ceiling v e)
-register-holds u ceiling v e most some is = go (ltb (e .rest) u) refl
+-- one bound of a register of a volume, which `product` has made
+module _ (u v x : ℕ) (some : 0 < u) (bound : Register) (is : bound ≡ booked u nothingBooked (v * x)) where
+  bound-amount : amountIn u bound ≡ v * x
+  bound-amount = ap (amountIn u) is ∙ amount-booked u some nothingBooked (v * x) ∙ omega arith
+
+  bound-rest : bound .rest < u
+  bound-rest = rw is (mod-lt (amountIn u nothingBooked + v * x) some)
+
+pub register-holds : (u floor ceiling v : ℕ) (e least most : Register) → 0 < u → least ≡ booked u nothingBooked (v * floor) → most ≡ booked u nothingBooked (v * ceiling) →
+    Tells (ltb (e .rest) u && atMost least e && atMost e most) (SoundRegister u floor ceiling v e)
+register-holds u floor ceiling v e least most some low high = go (ltb (e .rest) u) refl
   where
-    amount : amountIn u most ≡ v * ceiling
-    amount = ap (amountIn u) is ∙ amount-booked u some nothingBooked (v * ceiling) ∙ omega arith
-
-    below : most .rest < u
-    below = rw is (mod-lt (amountIn u nothingBooked + v * ceiling) some)
-
-    go : (b : Bool) → ltb (e .rest) u ≡ b → Tells (b && atMost e most) (SoundRegister u ceiling v e)
+    go : (b : Bool) → ltb (e .rest) u ≡ b → Tells (b && atMost least e && atMost e most) (SoundRegister u floor ceiling v e)
     go true h =
         let rest = ltb-true (e .rest) u h in
-        let t = amount-at-most u e most rest below in
-        record { yes = λ y. record { rest = rest; amount = omega (arith, t .yes y, amount) }; no = λ s. t .no (omega (arith, s .amount, amount)) }
+        let l = bound-amount u v floor some least low in
+        let m = bound-amount u v ceiling some most high in
+        let below = amount-at-most u least e (bound-rest u v floor some least low) rest in
+        let above = amount-at-most u e most rest (bound-rest u v ceiling some most high) in
+        record {
+          yes = λ y. let z = both _ _ y in record { rest = rest; least = omega (arith, below .yes (z .0), l); most = omega (arith, above .yes (z .1), m) };
+          no = λ s. rw (below .no (omega (arith, s .least, l)), above .no (omega (arith, s .most, m)));
+        }
     go false h = tells-false (λ s. omega (arith, ltb-false (e .rest) u h, s .rest))
 
 -- totals, from the test of each register
-pub totals-hold : (t : StreamTotals) {b : Bool} → t .volume ≤ mostTotal → Tells b (SoundRegister perMJ calorificBound (t .volume) (t .superior)) → Tells b (SoundTotals t)
+pub totals-hold : (t : StreamTotals) {b : Bool} → t .volume ≤ mostTotal → Tells b (SoundRegister perMJ calorificLow calorificBound (t .volume) (t .superior)) →
+    Tells b (SoundTotals t)
 totals-hold t low h = record { yes = λ y. record { volume = low; superior = h .yes y }; no = λ s. h .no (s .superior) }
 
--- the ceilings
-ceilings-hold : (p : Six) → Tells (belowCeilings p) (Bounded p)
-ceilings-hold p =
+-- the properties
+between-yes : (a x b : ℕ) → between a x b ≡ true → (a ≤ x) × (x ≤ b)
+between-yes a x b e = let z = both _ _ e in (leb-true a x (z .0), leb-true x b (z .1))
+
+between-no : (a x b : ℕ) → a ≤ x → x ≤ b → between a x b ≡ true
+between-no a x b low high = rw (le-leb a x low, le-leb x b high)
+
+properties-hold : (p : Six) → Tells (withinRanges p) (Floored p × Bounded p)
+properties-hold p =
     record {
       yes = λ y.
           let w = both _ _ y in
@@ -141,15 +156,19 @@ ceilings-hold p =
           let r = both _ _ (d .0) in
           let i = both _ _ (r .0) in
           let s = both _ _ (i .0) in
-          record {
-            Z = leb-true _ _ (s .0);
-            Hs = leb-true _ _ (s .1);
-            Hi = leb-true _ _ (i .1);
-            rho = leb-true _ _ (r .1);
-            d = leb-true _ _ (d .1);
-            W = leb-true _ _ (w .1);
-          };
-      no = λ b. rw (le-leb _ _ (b .Z), le-leb _ _ (b .Hs), le-leb _ _ (b .Hi), le-leb _ _ (b .rho), le-leb _ _ (b .d), le-leb _ _ (b .W));
+          let Z = between-yes _ (p .Z) _ (s .0) in
+          let Hs = between-yes _ (p .Hs) _ (s .1) in
+          let Hi = between-yes _ (p .Hi) _ (i .1) in
+          let rho = between-yes _ (p .rho) _ (r .1) in
+          let dd = between-yes _ (p .d) _ (d .1) in
+          let W = between-yes _ (p .W) _ (w .1) in (
+            record { Z = Z .0; Hs = Hs .0; Hi = Hi .0; rho = rho .0; d = dd .0; W = W .0 },
+            record { Z = Z .1; Hs = Hs .1; Hi = Hi .1; rho = rho .1; d = dd .1; W = W .1 },
+          );
+      no = λ h.
+          let f = h .0 in
+          let b = h .1 in
+          rw (between-no _ _ _ (f .Z) (b .Z), between-no _ _ _ (f .Hs) (b .Hs), between-no _ _ _ (f .Hi) (b .Hi), between-no _ _ _ (f .rho) (b .rho), between-no _ _ _ (f .d) (b .d), between-no _ _ _ (f .W) (b .W));
     }
 
 -- the elements of a list from the place i on
@@ -170,12 +189,12 @@ blank (Known gas) t h none = elim (none refl) [ ]
 -- the parts of a stream with an analysis
 record Parts (row : List ℕ) : Type 0 where
   pub pair : permitted (getD row 1 0) (getD row 2 0) ≡ true
-  pub bounded : Bounded (sixIn row)
+  pub properties : Floored (sixIn row) × Bounded (sixIn row)
   pub totals : SoundTotals (totalsIn row)
 
 parts : (a : InForce) (t : StreamTotals) → SoundAnalysis a t → SoundTotals t → getD (analysisWords a (packedTotals t)) 0 0 ≡ 1 → Parts (analysisWords a (packedTotals t))
 parts Nothing t h sound one = let f : ⊥ = omega arith in elim f [ ]
-parts (Known gas) t h sound one = record { pair = h .pair; bounded = h .bounded; totals = sound }
+parts (Known gas) t h sound one = record { pair = h .pair; properties = (h .floored, h .bounded); totals = sound }
 
 module _ (row : List ℕ) where
   pub blank-holds : row ≡ replicate 12 0 → LentRow row
@@ -186,7 +205,7 @@ module _ (row : List ℕ) where
   analysed-holds long one p =
       record {
         stream = record { analysis = Known (gasIn row); totals = totalsIn row };
-        sound = record { analysis = record { pair = p .pair; bounded = p .bounded }; totals = p .totals };
+        sound = record { analysis = record { pair = p .pair; floored = p .properties .0; bounded = p .properties .1 }; totals = p .totals };
         holds = dropped 0 12 row long ∙ ap (λ (w : ℕ). w ∷ elements 1 11 row) one;
       }
 
@@ -201,23 +220,23 @@ module _ (row : List ℕ) where
       l .holds ∙ blank (s .analysis) (s .totals) (l .sound .analysis) (λ one. none (ap (λ (r : List ℕ). getD r 0 0) (l .holds) ∙ one))
 
   -- a row that is not 0 everywhere, from the tests of its parts
-  pub row-holds : length row ≡ 12 → (row ≡ replicate 12 0 → ⊥) → (pair ceilings totals : Bool) → pair ≡ permitted (getD row 1 0) (getD row 2 0) →
-      ceilings ≡ belowCeilings (sixIn row) → Tells totals (SoundTotals (totalsIn row)) → Tells (eqb (getD row 0 0) 1 && pair && ceilings && totals) (LentRow row)
-  row-holds long some pair ceilings totals p c t =
+  pub row-holds : length row ≡ 12 → (row ≡ replicate 12 0 → ⊥) → (pair ranges totals : Bool) → pair ≡ permitted (getD row 1 0) (getD row 2 0) →
+      ranges ≡ withinRanges (sixIn row) → Tells totals (SoundTotals (totalsIn row)) → Tells (eqb (getD row 0 0) 1 && pair && ranges && totals) (LentRow row)
+  row-holds long some pair ranges totals p c t =
       record {
         yes = λ y.
             let z = both _ _ y in
             let m = both _ _ (z .0) in
             let f = both _ _ (m .0) in
             analysed-holds long (eqb-true _ _ (f .0))
-            (record { pair = sym p ∙ f .1; bounded = ceilings-hold (sixIn row) .yes (sym c ∙ m .1); totals = t .yes (z .1) });
+            (record { pair = sym p ∙ f .1; properties = properties-hold (sixIn row) .yes (sym c ∙ m .1); totals = t .yes (z .1) });
         no = λ l. go l (eqb (getD row 0 0) 1) refl;
       }
     where
-      go : LentRow row → (b : Bool) → eqb (getD row 0 0) 1 ≡ b → (eqb (getD row 0 0) 1 && pair && ceilings && totals) ≡ true
+      go : LentRow row → (b : Bool) → eqb (getD row 0 0) 1 ≡ b → (eqb (getD row 0 0) 1 && pair && ranges && totals) ≡ true
       go l true e =
           let q = lent-parts (eqb-true _ _ e) l in
-          rw (e, p ∙ q .pair, c ∙ ceilings-hold (sixIn row) .no (q .bounded), t .no (q .totals))
+          rw (e, p ∙ q .pair, c ∙ properties-hold (sixIn row) .no (q .properties), t .no (q .totals))
       go l false e = elim (some (lent-blank (eqb-false _ _ e) l)) [ ]
 
 -- rows that hold a stream each hold a meter together

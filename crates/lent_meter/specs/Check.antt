@@ -4,6 +4,7 @@ use mathlib.Core.Bool.{Bool, true, _&&_, _||_}
 use Prim.Native.Nat.{ℕ, _%_, _^_, _<_}
 use lib.Dec.{eqb, leb, ltb}
 use Rattle.properties.specs.Chain.{Six}
+use Rattle.properties.specs.Bounds.{compressionLow, calorificLow, densityLow, relativeLow, wobbeLow}
 use Rattle.properties.specs.Quantities.{compressionBound, calorificBound, densityBound, relativeBound, wobbeBound}
 use Rattle.meter.specs.declared.Register.{Register}
 
@@ -12,14 +13,19 @@ pub record Tells (answer : Bool) (Something : Type 0) : Type 0 where
   pub yes : answer ≡ true → Something
   pub no : Something → answer ≡ true
 
-abbrev pub belowCeilings : Six → Bool
-belowCeilings p =
-    leb (p .Z) compressionBound
-    && leb (p .Hs) calorificBound
-    && leb (p .Hi) calorificBound
-    && leb (p .rho) densityBound
-    && leb (p .d) relativeBound
-    && leb (p .W) wobbeBound
+-- a value lies between two others, both included
+abbrev pub between : ℕ → ℕ → ℕ → Bool
+between floor value ceiling = leb floor value && leb value ceiling
+
+-- each property lies between its floor and its ceiling
+abbrev pub withinRanges : Six → Bool
+withinRanges p =
+    between compressionLow (p .Z) compressionBound
+    && between calorificLow (p .Hs) calorificBound
+    && between calorificLow (p .Hi) calorificBound
+    && between densityLow (p .rho) densityBound
+    && between relativeLow (p .d) relativeBound
+    && between wobbeLow (p .W) wobbeBound
 
 -- a register holds no more than another
 abbrev pub atMost : Register → Register → Bool

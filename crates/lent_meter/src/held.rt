@@ -15,7 +15,7 @@ ghost use Rattle.meter.specs.State.{mostTotal, nothingBooked, SoundRegister, So
 ghost use Rattle.meter.specs.Calls.{booked};
 ghost use Rattle.lent_meter.specs.Words.{totalsIn, sixIn};
 ghost use Rattle.lent_meter.specs.Lent.{LentRow, EachLent};
-ghost use Rattle.lent_meter.specs.Check.{Tells, RegisterUnit, belowCeilings, atMost};
+ghost use Rattle.lent_meter.specs.Check.{Tells, RegisterUnit, between, withinRanges, atMost};
 
 // Two digits to this base make every volume total, and the unit of every register is a multiple of it.
 const BASE: u64 = 1000000;
@@ -45,16 +45,31 @@ fn pair_holds(combustion: u64, metering: u64) -> bool
     records::pair_permitted(combustion as u8, metering as u8)
 }
 
-// Whether no property in a row passes its ceiling.
-fn below_ceilings(row: &Row) -> bool
-    ensures { λ r. ⌜ r ≡ belowCeilings (sixIn (now (row .entry))) ⌝ }
+// Whether a value lies between two others, both included.
+fn between(floor: u64, value: u64, ceiling: u64) -> bool
+    ensures { λ r. ⌜ r ≡ between floor value ceiling ⌝ }
 {
-    (row[words::Z] <= CompressionFactor::BOUND)
-        & (row[words::HS] <= CalorificValue::BOUND)
-        & (row[words::HI] <= CalorificValue::BOUND)
-        & (row[words::RHO] <= Density::BOUND)
-        & (row[words::D] <= RelativeDensity::BOUND)
-        & (row[words::W] <= WobbeIndex::BOUND)
+    (floor <= value) & (value <= ceiling)
+}
+
+// Whether each property in a row lies between its floor and its ceiling.
+fn holds_properties(row: &Row) -> bool
+    ensures { λ r. ⌜ r ≡ withinRanges (sixIn (now (row .entry))) ⌝ }
+{
+    between(
+        CompressionFactor::FLOOR,
+        row[words::Z],
+        CompressionFactor::BOUND,
+    )
+        & between(CalorificValue::FLOOR, row[words::HS], CalorificValue::BOUND)
+        & between(CalorificValue::FLOOR, row[words::HI], CalorificValue::BOUND)
+        & between(Density::FLOOR, row[words::RHO], Density::BOUND)
+        & between(
+            RelativeDensity::FLOOR,
+            row[words::D],
+            RelativeDensity::BOUND,
+        )
+        & between(WobbeIndex::FLOOR, row[words::W], WobbeIndex::BOUND)
 }
 
 // Volume × value as a register, `unit` of whose rest make one whole.
@@ -79,13 +94,15 @@ fn at_most(register: Register, most: Register) -> bool
     (register.whole < most.whole) | ((register.whole == most.whole) & (register.rest <= most.rest))
 }
 
-// Whether a register is one of a volume, at a value up to the ceiling.
-fn holds_register(register: Register, unit: u64, volume: u64, ceiling: u64) -> bool
+// Whether a register is one of a volume, at values from the floor to the ceiling.
+fn holds_register(register: Register, unit: u64, volume: u64, floor: u64, ceiling: u64) -> bool
     requires { ⌜ RegisterUnit unit ⌝ }
-    requires { ⌜ (volume ≤ mostTotal) × (ceiling < 2 ^ 32) ⌝ }
-    ensures { λ r. ⌜ Tells r (SoundRegister unit ceiling volume register) ⌝ }
+    requires { ⌜ (volume ≤ mostTotal) × (floor < 2 ^ 32) × (ceiling < 2 ^ 32) ⌝ }
+    ensures { λ r. ⌜ Tells r (SoundRegister unit floor ceiling volume register) ⌝ }
 {
-    (register.rest < unit) & at_most(register, product(unit, volume, ceiling))
+    (register.rest < unit)
+        & at_most(product(unit, volume, floor), register)
+        & at_most(register, product(unit, volume, ceiling))
 }
 
 // Whether the totals in a row are those of a stream.
@@ -100,6 +117,7 @@ fn holds_totals(row: &Row) -> bool
         totals.superior,
         meter::PER_MJ,
         totals.volume,
+        CalorificValue::FLOOR,
         CalorificValue::BOUND,
     )
 }
@@ -113,7 +131,7 @@ fn holds_stream(row: &Row) -> bool
     }
     (row[words::ANALYSED] == 1)
         & pair_holds(row[words::COMBUSTION], row[words::METERING])
-        & below_ceilings(row)
+        & holds_properties(row)
         & holds_totals(row)
 }
 

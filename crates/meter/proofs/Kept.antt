@@ -2,7 +2,6 @@
 use mathlib.Core.Path.{_≡_, refl, sym, subst, _∙_}
 use mathlib.Core.Bool.{Bool, true, false, cond}
 use Prim.Native.Nat.{ℕ, zero, suc, _+_, _≤_}
-use native.Mathlib.Nat.{mul-le-mul-left}
 use native.Mathlib.Omega.{arith}
 use borrow.Author.Tests.{le-ltb, ltb-false, eqb-false}
 use lib.Dec.{eqb}
@@ -15,8 +14,9 @@ use Rattle.records.specs.Answers.{Gives}
 use Rattle.records.proofs.OrderLaws.{unmet, decided-accepted}
 use Rattle.records.proofs.RoundTrips.{accepted-head}
 use Rattle.records.proofs.Accepted.{acceptable}
+use Rattle.properties.specs.Bounds.{calorificLow}
 use Rattle.properties.specs.Quantities.{calorificBound}
-use Rattle.properties.proofs.Gas.{bounded}
+use Rattle.properties.proofs.Gas.{floored, bounded}
 use Rattle.meter.specs.declared.InForce.{InForce}
 use Rattle.meter.specs.declared.InForce.the-variants.{Nothing, Known}
 use Rattle.meter.specs.declared.Register.{Register}
@@ -61,7 +61,11 @@ analysis-keeps m k bs v after gives h =
     (λ z.
     let c = clear-analysis k bs s z in
     let old = h .each k (c .stream) in
-    record { analysis = record { pair = accepted-head bs (c .clear) .pair; bounded = bounded (contentsIn bs) (acceptable bs (c .clear)) }; totals = old .totals })
+    let gas = acceptable bs (c .clear) in
+    record {
+      analysis = record { pair = accepted-head bs (c .clear) .pair; floored = floored (contentsIn bs) gas; bounded = bounded (contentsIn bs) gas };
+      totals = old .totals;
+    })
   where
     s : Stream
     s = streamAt m k
@@ -71,12 +75,11 @@ sound-metered s w Nothing is old total = old
 sound-metered s w (Known gas) is old total =
     let t = s .totals in
     let b : SoundGas gas = subst (λ (a : InForce). SoundAnalysis a t) is (old .analysis) in
-    let booked = sound-booked perMJ (omega arith) calorificBound (t .volume) w in
     record {
       analysis = rw is b;
       totals = record {
         volume = total;
-        superior = booked _ (t .superior) (old .totals .superior) (mul-le-mul-left w (b .bounded .Hs));
+        superior = sound-booked perMJ (omega arith) calorificLow calorificBound (t .volume) w _ (t .superior) (old .totals .superior) (b .floored .Hs) (b .bounded .Hs);
       };
     }
 
@@ -107,7 +110,7 @@ pub zero-is-accepted : ZeroIsAccepted
 zero-is-accepted m k h b some =
     rw (le-ltb lastStream k b, some, le-ltb mostTotal (streamAt m k .totals .volume + 0) (omega (arith, h .each k b .totals .volume)))
 
-mean-at-most : (m : Meter) (k h : ℕ) (e : Register) → Sound m → (SoundTotals (streamAt m k .totals) → SoundRegister perMJ calorificBound (streamAt m k .totals .volume) e) →
+mean-at-most : (m : Meter) (k h : ℕ) (e : Register) → Sound m → (SoundTotals (streamAt m k .totals) → SoundRegister perMJ calorificLow calorificBound (streamAt m k .totals .volume) e) →
     meanReading k (streamAt m k) e ≡ accepted h → h ≤ calorificBound
 mean-at-most m k h r sound of e =
     let s = streamAt m k in

@@ -1,7 +1,7 @@
 -- A register, u units of whose rest make one whole: what is booked is added to its amount, and its rest stays below one whole.
 use mathlib.Core.Path.{_≡_, sym, ap, _∙_}
 use Prim.Native.Nat.{ℕ, _+_, _*_, _/_, _%_, _≤_, _<_}
-use native.Mathlib.Nat.{add-comm, add-mul-div-right, add-mul-mod-self-right, div-add-mod', mod-lt}
+use native.Mathlib.Nat.{add-comm, add-mul-div-right, add-mul-mod-self-right, div-add-mod', mod-lt, mul-le-mul-left}
 use native.Mathlib.Omega.{arith}
 use Rattle.meter.specs.declared.Register.{Register}
 use Rattle.meter.specs.State.{amountIn, SoundRegister}
@@ -21,6 +21,13 @@ module _ (u : ℕ) (p : 0 < u) where
   pub amount-booked : (e : Register) (n : ℕ) → amountIn u (booked u e n) ≡ amountIn u e + n
   amount-booked e n = div-add-mod' (amountIn u e + n) u
 
-  pub sound-booked : (ceiling v w n : ℕ) (e : Register) → SoundRegister u ceiling v e → n ≤ w * ceiling → SoundRegister u ceiling (v + w) (booked u e n)
-  sound-booked ceiling v w n e s h =
-      record { rest = mod-lt (amountIn u e + n) p; amount = omega (arith, amount-booked e n, s .amount) }
+  -- a volume w at a value x
+  pub sound-booked : (floor ceiling v w x : ℕ) (e : Register) → SoundRegister u floor ceiling v e → floor ≤ x → x ≤ ceiling →
+      SoundRegister u floor ceiling (v + w) (booked u e (w * x))
+  sound-booked floor ceiling v w x e s low high =
+      let is = amount-booked e (w * x) in
+      record {
+        rest = mod-lt (amountIn u e + w * x) p;
+        least = omega (arith, is, s .least, mul-le-mul-left w low);
+        most = omega (arith, is, s .most, mul-le-mul-left w high);
+      }

@@ -4,6 +4,7 @@ use mathlib.Core.Bool.{true}
 use Prim.Native.Nat.{ℕ, _+_, _*_, _≤_, _<_}
 use lib.ListN.{length, getD, set, replicate}
 use Rattle.records.specs.Conditions.{permitted}
+use Rattle.properties.specs.Bounds.{calorificLow, Floored}
 use Rattle.properties.specs.Quantities.{calorificBound, Bounded}
 use Rattle.properties.specs.Answers.{numbers}
 use Rattle.meter.specs.declared.Gas.{Gas}
@@ -56,19 +57,22 @@ withStream m k s = record { streams = set (m .streams) k s }
 abbrev pub amountIn : ℕ → Register → ℕ
 amountIn u e = e .whole * u + e .rest
 
--- what holds of a register at a volume total v: the rest is below one whole, and the amount at most v × a ceiling
-pub record SoundRegister (u ceiling v : ℕ) (e : Register) : Type 0 where
+-- what holds of a register at a volume total v: the rest is below one whole, and the amount is that of v at values from a floor to a
+-- ceiling
+pub record SoundRegister (u floor ceiling v : ℕ) (e : Register) : Type 0 where
   pub rest : e .rest < u
-  pub amount : amountIn u e ≤ v * ceiling
+  pub least : v * floor ≤ amountIn u e
+  pub most : amountIn u e ≤ v * ceiling
 
 -- what holds of the totals of every stream
 pub record SoundTotals (t : StreamTotals) : Type 0 where
   pub volume : t .volume ≤ mostTotal
-  pub superior : SoundRegister perMJ calorificBound (t .volume) (t .superior)
+  pub superior : SoundRegister perMJ calorificLow calorificBound (t .volume) (t .superior)
 
--- what holds of every gas in force: the pair is permitted, and no property passes its ceiling
+-- what holds of every gas in force: the pair is permitted, and each property lies between its floor and its ceiling
 pub record SoundGas (gas : Gas) : Type 0 where
   pub pair : permitted (gas .combustion) (gas .metering) ≡ true
+  pub floored : Floored (numbers (gas .properties))
   pub bounded : Bounded (numbers (gas .properties))
 
 -- what holds of a stream's totals beside its analysis: with none, they are as made

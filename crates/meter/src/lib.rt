@@ -9,6 +9,7 @@ ghost use mathlib.Core.Path.{_≡_};
 ghost use Prim.Native.Nat.{_+_, _*_, _^_, _≤_, _<_};
 ghost use Rattle.records.specs.Order.{firstOf, decided};
 ghost use Rattle.records.specs.Answers.{Gives};
+ghost use Rattle.properties.specs.Bounds.{calorificLow};
 ghost use Rattle.properties.specs.Quantities.{calorificBound, Bounded};
 ghost use Rattle.properties.specs.Answers.{numbers};
 ghost use Rattle.meter.specs.State.{mostVolume, mostTotal, perMJ, freshMeter, SoundRegister, SoundTotals, SoundStream, Sound};
@@ -264,7 +265,7 @@ pub fn totals(meter: Meter, stream: usize) -> TotalsAnswer
 
 // The mean calorific value of an energy over a volume, in J/m³, or 18.
 pub fn mean_over(energy: Register, volume: u64) -> MeanAnswer
-    requires { ⌜ SoundRegister perMJ calorificBound volume energy × (volume ≤ mostTotal) ⌝ }
+    requires { ⌜ SoundRegister perMJ calorificLow calorificBound volume energy × (volume ≤ mostTotal) ⌝ }
     ensures { λ r. ⌜ meanMeaning r ≡ decided (firstOf (zeroOrder (totalZero volume))) (meanIn energy volume) ⌝ }
 {
     if volume == 0 {

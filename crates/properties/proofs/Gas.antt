@@ -23,12 +23,12 @@ use Rattle.records.proofs.Accepted.{accepted-is-acceptable}
 use Rattle.properties.specs.Chain.{combustionPlace, T, D, HmSuperior, HmInferior, M, S, S9, Z, Hs, Hi, rho, A, G, d, r, W, idealCalorific, idealDensity, real, sixOf}
 use Rattle.properties.specs.Unrounded as unrounded
 use Rattle.properties.specs.Quantities.{calorificBound, densityBound, relativeBound, wobbeBound, Bounded}
-use Rattle.properties.specs.Bounds.{divisorLow, divisorHigh, airLow, airHigh, compressionLow, calorificLow, idealCalorificHigh, calorificHigh, relativeLow, idealRelativeHigh, idealHigh}
+use Rattle.properties.specs.Bounds.{divisorLow, divisorHigh, airLow, airHigh, compressionLow, calorificLow, idealCalorificHigh, calorificHigh, densityLow, relativeLow, idealRelativeHigh, idealHigh, wobbeLow, Floored}
 use Rattle.properties.specs.Distances.{Indexed, Distances}
 use Rattle.properties.specs.Accepted.{Amounts, Squares, EveryAcceptedRecord}
 use Rattle.properties.proofs.Approximations.{z-low, z-within, real-within}
 use Rattle.properties.proofs.Index.{indexed}
-use Rattle.properties.proofs.StepBounds.{tenth-high, compression-high, divisor-low, temperature-high, air-low, air-high, metering-place, combustion-place, calorific-near, ideal-calorific-high, ideal-calorific-low, density-near, ideal-density-high, relative-near, ideal-relative-high, ideal-relative-low, real-high, real-low, root-of, root-low, wobbe-near, wobbe-high, wobbe-low}
+use Rattle.properties.proofs.StepBounds.{tenth-high, compression-high, divisor-low, temperature-high, air-low, air-high, metering-place, combustion-place, calorific-near, ideal-calorific-high, ideal-calorific-low, density-near, ideal-density-high, ideal-density-low, relative-near, ideal-relative-high, ideal-relative-low, real-high, real-low, root-of, root-low, wobbe-near, wobbe-high, wobbe-low}
 
 heats : (c : ℕ) → Heat (superior (combustionPlace c)) × Heat (inferior (combustionPlace c))
 heats c = let h = combustion-place c in ((omega arith, omega arith), (omega arith, omega arith))
@@ -66,6 +66,10 @@ module _ (k : Contents) (a : Acceptable k) where
   pub inferior-high : HmInferior k ≤ heatHigh
   unfolding HmInferior
   inferior-high = rw (over-entries _) (in-bounds .heat-high _ (heats (k .combustion) .1))
+
+  inferior-low : heatLow ≤ HmInferior k
+  unfolding HmInferior
+  inferior-low = rw (over-entries _) (in-bounds .heat-low _ (heats (k .combustion) .1))
 
   pub mass-low : massLow ≤ M k
   unfolding M
@@ -167,9 +171,17 @@ module _ (k : Contents) (a : Acceptable k) where
   unfolding Hi
   Hi-high = real-high _ (Z k) Z-low calorificBound (omega (arith, inferior-ideal))
 
+  Hi-low : calorificLow ≤ Hi k
+  unfolding Hi
+  Hi-low = real-low _ (Z k) Z-low Z-high calorificLow (ideal-calorific-low (HmInferior k) (D k) inferior-low (omega (arith, D-low)) D-high)
+
   rho-high : rho k ≤ densityBound
   unfolding rho
   rho-high = real-high _ (Z k) Z-low densityBound (omega (arith, mass-ideal))
+
+  rho-low : densityLow ≤ rho k
+  unfolding rho
+  rho-low = real-low _ (Z k) Z-low Z-high densityLow (ideal-density-low (M k) (D k) mass-low (omega (arith, D-low)) D-high)
 
   pub d-high : d k ≤ relativeBound
   unfolding d
@@ -183,13 +195,17 @@ module _ (k : Contents) (a : Acceptable k) where
   unfolding W r
   W-high = wobbe-high (d k) d-low d-high (Hs k) Hs-high
 
+  W-low : wobbeLow ≤ W k
+  unfolding W r
+  W-low = wobbe-low (d k) d-low d-high (Hs k) Hs-low
+
   W-within : Indexed 25 (W k) (unrounded.Hs k) (unrounded.d k)
   unfolding W r
   W-within =
       let low = root-low (d k) d-low d-high in
       let high = wobbe-high (d k) d-low d-high (Hs k) Hs-high in
       indexed 20 25 (Hs k) _ _ (d k) _ _ _ _ Hs-within d-within (root-of (d k) d-low d-high) (wobbe-near (d k) d-low d-high (Hs k))
-      (omega (arith, low)) (omega (arith, low, high)) (wobbe-low (d k) d-low d-high (Hs k) Hs-low) (omega (arith, low))
+      (omega (arith, low)) (omega (arith, low, high)) (omega (arith, wobbe-low (d k) d-low d-high (Hs k) Hs-low)) (omega (arith, low))
 
   pub bounded : Bounded (sixOf k)
   bounded =
@@ -201,6 +217,9 @@ module _ (k : Contents) (a : Acceptable k) where
         d = d-high;
         W = W-high;
       }
+
+  pub floored : Floored (sixOf k)
+  floored = record { Z = Z-low; Hs = Hs-low; Hi = Hi-low; rho = rho-low; d = d-low; W = W-low }
 
   pub distances : Distances k (sixOf k)
   distances = record { Z = Z-within; Hs = Hs-within; Hi = Hi-within; rho = rho-within; d = d-within; W = W-within }

@@ -12,7 +12,7 @@ use Rattle.rounding.specs.Fraction.{Within, _over_, half}
 use Rattle.rounding.proofs.NearLaws.{near-half, near-z-half, at-most, at-least}
 use Rattle.rounding.proofs.RootLaws.{root-is, root-greatest, below-of-squares}
 use Rattle.components.specs.Bounds.{heatLow, heatHigh, massLow, massHigh, summationHigh}
-use Rattle.properties.specs.Bounds.{divisorLow, divisorHigh, airLow, airHigh, compressionLow, calorificLow, idealCalorificHigh, calorificHigh, relativeLow, idealRelativeHigh, idealHigh, rootLow}
+use Rattle.properties.specs.Bounds.{divisorLow, divisorHigh, airLow, airHigh, compressionLow, calorificLow, idealCalorificHigh, calorificHigh, densityLow, relativeLow, idealRelativeHigh, idealHigh, rootLow, wobbeLow}
 use Rattle.properties.specs.Quantities.{relativeBound, wobbeBound}
 use Rattle.properties.specs.Chain.{forMetering, temperature, divisor, meteringPlace, combustionPlace, airFactor, tenth, idealCalorific, idealDensity, idealRelative, real, rootOf, wobbe}
 
@@ -70,6 +70,9 @@ module _ (M : ℕ) where
   pub ideal-density-high : (D : ℕ) → M ≤ massHigh → divisorLow ≤ D → idealDensity M D ≤ idealHigh
   ideal-density-high D h l = at-most (density-near D (omega arith)) (omega arith)
 
+  pub ideal-density-low : (D : ℕ) → massLow ≤ M → 0 < D → D ≤ divisorHigh → densityLow ≤ idealDensity M D
+  ideal-density-low D h p l = at-least (density-near D p) (omega arith)
+
   pub relative-near : (A : ℕ) → Within half (idealRelative M A) ((M * A) over 289626000)
   relative-near A = near-half (M * A) 289626000 (omega arith)
 
@@ -118,5 +121,5 @@ module _ (d : ℕ) (d-low : relativeLow ≤ d) (d-high : d ≤ relativeBound) wh
   pub wobbe-high : (Hs : ℕ) → Hs ≤ calorificHigh → wobbe Hs (rootOf d) ≤ wobbeBound
   wobbe-high Hs h = at-most (wobbe-near Hs) (omega (arith, root-low))
 
-  pub wobbe-low : (Hs : ℕ) → calorificLow ≤ Hs → 25 ≤ wobbe Hs (rootOf d)
+  pub wobbe-low : (Hs : ℕ) → calorificLow ≤ Hs → wobbeLow ≤ wobbe Hs (rootOf d)
   wobbe-low Hs h = at-least (wobbe-near Hs) (omega (arith, root-high))

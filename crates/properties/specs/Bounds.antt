@@ -1,6 +1,7 @@
 -- Bounds of the numbers of each step. Those of an accepted record, `..Low` and `..High`, follow from the bounds of its sums
 -- (components/specs/Bounds.antt); `..Bound` in Quantities.antt is a ceiling.
-use Prim.Native.Nat.{ℕ, _*_}
+use Prim.Native.Nat.{ℕ, _*_, _≤_}
+use Rattle.properties.specs.Chain.{Six}
 
 -- Hm, M and an ideal value that a step takes, of any gas, so that its products fit 64 bits
 abbrev pub anyHeat : ℕ
@@ -29,7 +30,7 @@ airHigh = 100000
 abbrev pub compressionLow : ℕ
 compressionLow = 724000000
 
--- 3. The ideal calorific value, and Hs, unit J/m³; the lower bound is of both
+-- 3. The ideal calorific value, and Hs, unit J/m³; the lower bound is of both, and of Hi
 abbrev pub calorificLow : ℕ
 calorificLow = 4000000
 
@@ -38,6 +39,10 @@ idealCalorificHigh = 175000000
 
 abbrev pub calorificHigh : ℕ
 calorificHigh = 242000000
+
+-- 4. The ideal density, and rho, unit 10^-8 kg/m³
+abbrev pub densityLow : ℕ
+densityLow = 33000000
 
 -- 5. G and d, unit 10^-8; the lower bound is of both
 abbrev pub relativeLow : ℕ
@@ -50,6 +55,18 @@ idealRelativeHigh = 277000000
 abbrev pub idealHigh : ℕ
 idealHigh = 365000000
 
--- 6. r
+-- 6. r, and W, unit J/m³
 abbrev pub rootLow : ℕ
 rootLow = 525000000
+
+abbrev pub wobbeLow : ℕ
+wobbeLow = 900000
+
+-- no property is below its lower bound
+pub record Floored (p : Six) : Type 0 where
+  pub Z : compressionLow ≤ p .Z
+  pub Hs : calorificLow ≤ p .Hs
+  pub Hi : calorificLow ≤ p .Hi
+  pub rho : densityLow ≤ p .rho
+  pub d : relativeLow ≤ p .d
+  pub W : wobbeLow ≤ p .W

@@ -1,5 +1,5 @@
 // The properties as quantities. SCALE is how many of the quantity's unit make 1 of the standard's, BOUND the ceiling that no value
-// passes. Every ceiling is below 2^32, so a value is kept in 32 bits.
+// passes, FLOOR what no property of an accepted record is below. Every ceiling is below 2^32, so a value is kept in 32 bits.
 ghost use mathlib.Core.Path.{_≡_};
 ghost use Prim.Native.Nat.{_≤_};
 ghost use Rattle.properties.specs.Quantities.{compressionBound, calorificBound, densityBound, relativeBound, wobbeBound, scales, bounds};
@@ -13,6 +13,8 @@ impl CompressionFactor {
     pub const SCALE: u64 = 1000000000;
 
     pub const BOUND: u64 = 1000000000;
+
+    pub const FLOOR: u64 = 724000000;
 
     pub fn new(value: u64) -> Self
         requires { ⌜ value ≤ compressionBound ⌝ }
@@ -39,6 +41,8 @@ impl CalorificValue {
 
     pub const BOUND: u64 = 250000000;
 
+    pub const FLOOR: u64 = 4000000;
+
     pub fn new(value: u64) -> Self
         requires { ⌜ value ≤ calorificBound ⌝ }
         ensures { λ r. ⌜ r .value ≡ value ⌝ }
@@ -63,6 +67,8 @@ impl Density {
     pub const SCALE: u64 = 100000000;
 
     pub const BOUND: u64 = 510000000;
+
+    pub const FLOOR: u64 = 33000000;
 
     pub fn new(value: u64) -> Self
         requires { ⌜ value ≤ densityBound ⌝ }
@@ -89,6 +95,8 @@ impl RelativeDensity {
 
     pub const BOUND: u64 = 390000000;
 
+    pub const FLOOR: u64 = 27590000;
+
     pub fn new(value: u64) -> Self
         requires { ⌜ value ≤ relativeBound ⌝ }
         ensures { λ r. ⌜ r .value ≡ value ⌝ }
@@ -113,6 +121,8 @@ impl WobbeIndex {
     pub const SCALE: u64 = 1000000;
 
     pub const BOUND: u64 = 470000000;
+
+    pub const FLOOR: u64 = 900000;
 
     pub fn new(value: u64) -> Self
         requires { ⌜ value ≤ wobbeBound ⌝ }

@@ -1,21 +1,24 @@
--- The rest below one whole, and no more than volume × ceiling.
-use mathlib.Core.Path.{_≡_, subst, sym, ap}
-use mathlib.Core.Bool.{Bool, _&&_}
+-- The rest below one whole, and an amount from volume × floor to volume × ceiling.
+use mathlib.Core.Bool.{_&&_}
 use borrow.Author.Needs.{needs}
 use lib.Dec.{ltb}
 use Rattle.meter.specs.State.{SoundRegister}
-use Rattle.lent_meter.specs.Check.{Tells}
+use Rattle.lent_meter.specs.Check.{Tells, atMost}
 use Rattle.lent_meter.proofs.Telling.{register-holds}
 use Rattle.lent_meter.proofs.held.holds_register.Statement.{statement}
 use Rattle.lent_meter.proofs.held.holds_register.Tie as tie
 
 returns : tie.Need-returns
 returns c =
-    let p = c .before in
-    let s = p .before .before in
+    let most = c .before in
+    let low = most .before in
+    let least = low .before in
+    let s = least .before .before in
     let a = s .args in
-    subst (λ (b : Bool). Tells (ltb (a .register .rest) (a .unit) && b) (SoundRegister (a .unit) (a .ceiling) (a .volume) (a .register))) (sym (c .at-most .ensures))
-    (register-holds (a .unit) (a .ceiling) (a .volume) (a .register) (p .product .result) (s .pre .0 .some) (p .product .ensures))
+    let told =
+    register-holds (a .unit) (a .floor) (a .ceiling) (a .volume) (a .register) (least .product .result) (most .product2 .result) (s .pre .0 .some) (least .product .ensures) (most .product2 .ensures) in
+    rw (low .at-most .ensures, c .at-most2 .ensures) told
 
 pub holds-register-spec : {M : Type 1} → statement M
-holds-register-spec = tie.close (tie.spec (λ c κs. search needs) (λ c κs. search needs) returns)
+holds-register-spec =
+    tie.close (tie.spec (λ c κs. search needs) (λ c κs. search needs) (λ c κs. search needs) (λ c κs. search needs) returns)

@@ -28,7 +28,7 @@ returns-2 c =
     let p = b .before in
     let e = p .before .before .before .before in
     let z = e .before in
-    row-holds (row z) (long z) (λ h. untold (z .all-zero .ensures) (e .if1 .left) (h ∙ sym (zeros z))) _ _ _ (p .pair-holds .ensures) (b .below-ceilings .ensures)
+    row-holds (row z) (long z) (λ h. untold (z .all-zero .ensures) (e .if1 .left) (h ∙ sym (zeros z))) _ _ _ (p .pair-holds .ensures) (b .holds-properties .ensures)
     (c .holds-totals .ensures)
 
 pub holds-stream-spec : {M : Type 1} → statement M
