@@ -1,5 +1,5 @@
-//! include/loonstool.h has the names, numbers, conditions, parameters and ceilings of this crate; the conditions are those of the
-//! definitions in specs/, and the ceilings those that the proved program `try_properties` prints.
+//! include/loonstool.h has the names, numbers, conditions, parameters and ceilings of this crate; the conditions, units and ceilings are
+//! those of the definitions in specs/.
 use loonstool::{Properties, Refusal, LINES, STREAMS, STREAM_WORDS};
 
 const HEADER: &str = include_str!("../../include/loonstool.h");
@@ -9,7 +9,7 @@ const WRAPPERS: [&str; 2] = [
 ];
 const RECORDS: &str = include_str!("../../crates/records/specs/Conditions.antt");
 const METER: &str = include_str!("../../crates/meter/specs/Conditions.antt");
-const PRINTED: &str = include_str!("../../crates/try_properties/stdout");
+const QUANTITIES: &str = include_str!("../../crates/properties/specs/Quantities.antt");
 
 /// Name, number and comment of a line of the enum.
 fn refusal(line: &str) -> Option<(&str, u8, &str)> {
@@ -127,23 +127,37 @@ fn declarations() {
     }
 }
 
-/// Name and ceiling of a field of struct loonstool_properties.
-fn ceiling(line: &str) -> Option<(&str, u64)> {
+/// Name, unit and ceiling of a field of struct loonstool_properties.
+fn property(line: &str) -> Option<(&str, &str, u64)> {
     let (name, rest) = line.trim().strip_prefix("uint64_t ")?.split_once(';')?;
-    let ceiling = rest.split_once("at most ")?.1.strip_suffix(" */")?;
-    Some((name, ceiling.replace(',', "").parse().ok()?))
+    let (unit, rest) = rest.split_once(", unit ")?.1.split_once(", at most ")?;
+    let ceiling = rest.strip_suffix(" */")?.replace(',', "");
+    Some((name, unit, ceiling.parse().ok()?))
 }
 
-/// The ceiling that the proved program prints for a quantity, after its scale.
-fn printed(quantity: &str) -> u64 {
-    let line = PRINTED.lines().find_map(|line| line.strip_prefix(quantity));
-    let number = line.and_then(|line| line.rsplit(' ').next()?.parse().ok());
-    number.expect(quantity)
+/// The text of a definition of specs/Quantities.antt.
+fn defined(name: &str) -> &'static str {
+    let start = format!("\n{name} = ");
+    let (_, rest) = QUANTITIES.split_once(&start).expect(name);
+    rest.lines().next().unwrap_or_default()
+}
+
+/// The elements of a list of specs/Quantities.antt, in the order Z, Hs, Hi, rho, d, W.
+fn elements(name: &str) -> Vec<&'static str> {
+    let list = defined(name).strip_suffix(" ∷ []").expect(name);
+    list.split(" ∷ ").collect()
+}
+
+/// How many of a unit of the header make 1 of the standard's (1, 1 MJ/m3, 1 kg/m3), in the words of specs/Quantities.antt.
+fn scale(unit: &str) -> String {
+    let power = unit.strip_prefix("10^-").map(|rest| &rest[..1]);
+    let power = power.or((unit == "J/m3").then_some("6"));
+    format!("10 ^ {}", power.expect(unit))
 }
 
 #[test]
-fn ceilings() {
-    let in_header: Vec<_> = HEADER.lines().filter_map(ceiling).collect();
+fn units_and_ceilings() {
+    let in_header: Vec<_> = HEADER.lines().filter_map(property).collect();
     let ceilings = Properties::CEILINGS;
     let here = [
         ("z", ceilings.z),
@@ -153,16 +167,13 @@ fn ceilings() {
         ("d", ceilings.d),
         ("w", ceilings.w),
     ];
-    assert_eq!(in_header, here);
-    let proved = [
-        "compression factor ",
-        "calorific value ",
-        "calorific value ",
-        "density ",
-        "relative density ",
-        "Wobbe index ",
-    ];
-    assert_eq!(here.map(|(_, ceiling)| ceiling), proved.map(printed));
+    let named = in_header.iter().map(|(name, _, ceiling)| (*name, *ceiling));
+    assert_eq!(named.collect::<Vec<_>>(), here);
+    let scales = in_header.iter().map(|(_, unit, _)| scale(unit));
+    assert_eq!(scales.collect::<Vec<_>>(), elements("scales"));
+    let bounds = elements("bounds").into_iter().map(defined);
+    let ceilings = here.map(|(_, ceiling)| ceiling.to_string());
+    assert_eq!(bounds.collect::<Vec<_>>(), ceilings);
 }
 
 #[test]
