@@ -1,5 +1,6 @@
-//! Document 01's cases K1 to K9 and each refusal number of a record and the
-//! writer, on the library and the plain version; K10 on the plain version.
+//! Document 01's cases K1 to K9, further gases, and each refusal number of a
+//! record and the writer, on the library and the plain version; K10 on the
+//! plain version.
 
 mod cases;
 mod plain;
@@ -53,40 +54,59 @@ fn k2_methane() {
     assert_eq!((analysis.lines[0], analysis.fractions[0]), (1, 1_000_000));
     assert!(analysis.lines[1..].iter().all(|line| *line == 0));
     assert!(analysis.fractions[1..].iter().all(|x| *x == 0));
-    let mut out = [0xAA; 15];
-    assert_eq!(write(15, 15, &[1], &[1_000_000], &mut out), Ok(13));
-    assert_eq!(out[..13], K2);
-    assert_eq!(out[13..], [0xAA, 0xAA]);
+    written_again(&K2, &analysis);
+}
+
+/// The number of a refusal, 0 for accepted.
+fn number_of<T>(answer: &Result<T, u8>) -> u8 {
+    *answer.as_ref().err().unwrap_or(&0)
 }
 
 #[test]
-fn k3_to_k8_and_each_number() {
+fn records_and_each_number() {
     let mut seen = [false; 13];
     for (title, record, number) in cases::records() {
-        let given = properties_of(&record).err().unwrap_or(0);
-        assert_eq!(given, number, "{title}");
-        assert_eq!(read(&record).err().unwrap_or(0), number, "{title}");
+        let (properties, reading) = (properties_of(&record), read(&record));
+        assert_eq!(number_of(&properties), number, "{title}");
+        assert_eq!(number_of(&reading), number, "{title}");
+        if let Ok(analysis) = reading {
+            written_again(&record, &analysis);
+        }
         seen[usize::from(number)] = true;
     }
     assert_eq!(seen, [true; 13]);
 }
 
+/// An accepted record that was read has the same bytes where it is written
+/// again, and is not written into a buffer that is a byte short.
+fn written_again(record: &[u8], read: &Analysis) {
+    let (lines, fractions) = (&read.lines[..read.count], &read.fractions[..read.count]);
+    let write = |out: &mut [u8]| write(read.combustion, read.metering, lines, fractions, out);
+    let mut out = vec![170; record.len() + 2];
+    assert_eq!(write(&mut out), Ok(record.len()));
+    assert_eq!(out, [record, &[170, 170]].concat());
+    let mut short = vec![170; record.len() - 1];
+    assert_eq!(write(&mut short), Err(20));
+    assert!(short.iter().all(|byte| *byte == 170));
+}
+
 #[test]
-fn bytes_that_are_no_record() {
-    let mut later = K2.to_vec();
-    later[4] = 1;
-    for (bytes, refusal) in [
-        (vec![], Refusal::RECORD_SHORT),
-        (later, Refusal::VERSION_DIFFERS),
-        (
-            record(15, 15, &[(1, u32::MAX), (2, 1_000_001)]),
-            Refusal::SUM_OUTSIDE,
-        ),
-        (record(15, 15, &[(52, 1_000_000)]), Refusal::METHANE_LOW),
-    ] {
-        assert_eq!(loonstool::properties_of(&bytes), Err(refusal));
-        assert_eq!(loonstool::read(&bytes), Err(refusal));
-        assert_eq!(plain::properties_of(&bytes), Err(refusal.number()));
+fn gases_written_and_read_again() {
+    let further = cases::further().into_iter().map(|(_, gas)| gas);
+    for gas in cases::of_paper().into_iter().chain(further) {
+        let (lines, fractions): (Vec<u8>, Vec<u32>) = gas.entries.iter().copied().unzip();
+        let mut out = [170; 300];
+        let answer = write(gas.pair.0, gas.pair.1, &lines, &fractions, &mut out);
+        assert_eq!(number_of(&answer), gas.number, "{}", gas.title);
+        let (front, others) = out.split_at(answer.unwrap_or(0));
+        assert!(others.iter().all(|byte| *byte == 170), "{}", gas.title);
+        if gas.number == 0 {
+            assert_eq!(front, gas.record());
+            let read = read(front).unwrap();
+            assert_eq!((read.combustion, read.metering), gas.pair);
+            assert_eq!(read.lines[..read.count], lines);
+            assert_eq!(read.fractions[..read.count], fractions);
+        }
     }
 }
 
@@ -151,4 +171,21 @@ fn writer_refusals() {
     assert_eq!(write(15, 15, &lines, &dry, &mut out[..17]), Err(20));
     assert_eq!(out, [7; 18]);
     assert_eq!(write(15, 15, &lines, &dry, &mut out), Ok(18));
+}
+
+#[test]
+fn lists_that_are_no_gas() {
+    let all: Vec<u8> = (1..=55).collect();
+    let lists: [(u8, &[u8], &[u32]); 5] = [
+        (9, &[1, 2], &[u32::MAX, 1_000_001]),
+        (7, &[1, 2, 2], &[0, 999_999, 1]),
+        (19, &[1, 2], &[1_000_000]),
+        (5, &[1; 56], &[1; 56]),
+        (9, &all, &[u32::MAX; 55]),
+    ];
+    let mut out = [170; 300];
+    for (number, lines, fractions) in lists {
+        assert_eq!(write(15, 15, lines, fractions, &mut out), Err(number));
+    }
+    assert_eq!(out, [170; 300]);
 }

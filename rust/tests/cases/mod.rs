@@ -116,38 +116,38 @@ pub fn further() -> Vec<(&'static str, Gas)> {
     .collect()
 }
 
-/// Every record with its title and the number that refuses it: the gases, and a record for each number that no case has.
+/// Every record with its title and the number that refuses it, 0 where it is accepted: the gases, K2 at another pair, and bytes that are
+/// no record, among them one for each number that no gas has.
 pub fn records() -> Vec<(String, Vec<u8>, u8)> {
     let changed = |at: usize, byte| {
         let mut bytes = K2;
         bytes[at] = byte;
         bytes.to_vec()
     };
-    let damaged = [
-        ("7 bytes", record(15, 15, &[])[..7].to_vec(), 1),
+    let many = |count| [&K2[..7], &[count], &[1; 1275]].concat();
+    let beside = |first, second| record(15, 15, &[(1, first), (2, second)]);
+    let others = [
+        ("K2 25/20", record(25, 20, &methane_and(&[])), 0),
+        ("no bytes", vec![], 1),
+        ("7 bytes", K2[..7].to_vec(), 1),
         ("mark GCS", changed(2, b'S'), 2),
+        ("bytes of 170", vec![170; 13], 2),
         ("version 2", changed(3, 2), 3),
+        ("version 257", changed(4, 1), 3),
         ("no entry", record(15, 15, &[]), 5),
+        ("255 entries", many(255), 5),
+        ("8 bytes", K2[..8].to_vec(), 6),
         ("a byte short", K2[..12].to_vec(), 6),
+        ("a byte more", [&K2[..], &[0]].concat(), 6),
+        ("55 entries and more bytes", many(55), 6),
         ("fraction 0", record(15, 15, &[(1, 0)]), 8),
+        ("fraction 0 last", beside(1_000_000, 0), 8),
+        ("2^32 + 1,000,000 in all", beside(u32::MAX, 1_000_001), 9),
+        ("no methane", record(15, 15, &[(52, 1_000_000)]), 10),
     ];
     let gases = further().into_iter().map(|(_, gas)| gas).chain(of_paper());
     gases
         .map(|gas| (gas.title.clone(), gas.record(), gas.number))
-        .chain(damaged.map(|(title, bytes, number)| (title.to_string(), bytes, number)))
+        .chain(others.map(|(title, bytes, number)| (title.to_string(), bytes, number)))
         .collect()
-}
-
-/// What crates/try_records reads and writes again: K2, also at 25/20; the refused records of K3 to K8; a fraction of 0; and bytes that
-/// end early or late.
-pub fn read_again() -> Vec<Vec<u8>> {
-    let many = |count| [&K2[..7], &[count], &[1; 1275]].concat();
-    let refused = of_paper().into_iter().filter(|gas| gas.number > 0);
-    let mut read = vec![K2.to_vec(), record(25, 20, &methane_and(&[]))];
-    read.extend(refused.map(|gas| gas.record()));
-    read.push(record(15, 15, &[(1, 1_000_000), (2, 0)]));
-    read.extend([0, 7, 8].map(|length| K2[..length].to_vec()));
-    read.push([&K2[..], &[0]].concat());
-    read.extend([many(55), many(255)]);
-    read
 }
