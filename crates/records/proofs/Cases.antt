@@ -3,7 +3,7 @@ use mathlib.Core.Path.{refl}
 use Rattle.components.specs.Composition.{total, fractionFor}
 use Rattle.records.specs.Format.{linesOf, fractionsOf, entriesBytes}
 use Rattle.records.specs.Conditions.{lineBreaks, fractionZero, anyAbove}
-use Rattle.records.specs.Cases.{sameList, sameOutcome, upFrom, CasesHold, FullGasHolds, PairsHold, LimitsHold, DamagedRefused, WritesRefused, BuffersHold, DamagedNotRewritten}
+use Rattle.records.specs.Cases.{sameList, sameOutcome, upFrom, CasesHold, FullGasHolds, PairsHold, LimitsHold, DamagedRefused, WritesRefused, BuffersHold}
 
 pub cases-hold : CasesHold
 unfolding sameList sameOutcome linesOf fractionsOf entriesBytes lineBreaks fractionZero anyAbove total fractionFor
@@ -32,7 +32,3 @@ writes-refused = refl
 pub buffers-hold : BuffersHold
 unfolding sameList sameOutcome linesOf fractionsOf entriesBytes lineBreaks fractionZero anyAbove total fractionFor
 buffers-hold = refl
-
-pub damaged-not-rewritten : DamagedNotRewritten
-unfolding sameOutcome upFrom linesOf fractionsOf entriesBytes lineBreaks fractionZero anyAbove total fractionFor
-damaged-not-rewritten = refl

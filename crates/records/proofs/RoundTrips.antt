@@ -7,13 +7,14 @@ use native.Mathlib.Omega.{arith}
 use borrow.Author.Tests.{le-ltb, eq-eqb, ne-eqb, ltb-false, not-false, eqb-true}
 use lib.Dec.{eqb, ltb}
 use lib.ListN.{length, getD, take, drop, take-append-drop, length-drop}
-use lib.Seq.{take-suc, getD-drop}
+use lib.Seq.{take-at, take-suc, getD-drop}
 use Rattle.components.specs.Composition.{mostSum, total}
 use Rattle.records.specs.Order.{Order, firstOf, accepted, decided}
 use Rattle.records.specs.Format.{Contents, Bytes, entriesAt, recordLength, number4, combustionIn, meteringIn, countIn, entriesIn, linesOf, fractionsOf, linesIn, fractionsIn, contentsIn, headBytes, entryBytes, entriesBytes, bytesOf, placed}
-use Rattle.records.specs.Conditions.{leastSum, headOrder, contentOrder, recordOrder, startOrder, roomOrder, writerOrder, rewriteOrder}
-use Rattle.records.specs.Calls.{readingOf, writingOf, rewritingOf}
-use Rattle.records.specs.RoundTrips.{FillsItsBytes, ReadThenWritten, WrittenThenRead}
+use Rattle.records.specs.Conditions.{leastSum, headOrder, contentOrder, recordOrder, startOrder, roomOrder, writerOrder}
+use Rattle.records.specs.Calls.{readingOf, writingOf}
+use Rattle.records.specs.Answers.{padded}
+use Rattle.records.specs.RoundTrips.{AnswerHoldsContents, FillsItsBytes, ReadThenWritten, WrittenThenRead}
 use Rattle.records.proofs.OrderLaws.{passes, clear-first, clear-second, unmet, neither, both, decided-accepted}
 use Rattle.records.proofs.Heads.{Head, head, Start, start, room-of}
 use Rattle.records.proofs.Placing.{placed-front, placed-others, placed-length}
@@ -92,21 +93,26 @@ writer-room bs room h =
     sym (passes (startOrder (contentsIn bs)) (content ++ last) tt refl c (passes content last tt refl (accepted-content bs h) refl))
     ∙ ap (λ (n : ℕ). firstOf (roomOrder room n)) nl
 
--- reading a record and writing it again is writing its contents
-pub rewriting-is : (bs old : List ℕ) → Bytes bs → firstOf (recordOrder bs) ≡ 0 → writingOf (contentsIn bs) old ≡ rewritingOf bs old
-rewriting-is bs old b h =
-    let w = writer-room bs (length old) h ∙ passes (recordOrder bs) (roomOrder (length old) (countIn bs)) tt refl h refl in
-    ap (λ (n : ℕ). decided n (placed old 0 (bytesOf (contentsIn bs)))) w
-    ∙ ap (λ (t : List ℕ). decided (firstOf (rewriteOrder bs (length old))) (placed old 0 t)) (bytes-again bs b (accepted-head bs h))
-
 -- with room, nothing refuses it
 pub read-then-written : ReadThenWritten
 read-then-written bs old k b e r =
     let d = decided-accepted (firstOf (recordOrder bs)) (contentsIn bs) k e in
     let a = accepted-head bs (d .0) in
-    let w : firstOf (rewriteOrder bs (length old)) ≡ 0 =
-    sym (passes (recordOrder bs) (roomOrder (length old) (countIn bs)) tt refl (d .0) (rw (le-ltb (length old) (recordLength (countIn bs)) (omega (arith, a .exact))))) in
-    rw (← d .1) (rewriting-is bs old b (d .0) ∙ rw w)
+    let w : firstOf (writerOrder (contentsIn bs) (length old)) ≡ 0 =
+    writer-room bs (length old) (d .0) ∙ rw (le-ltb (length old) (recordLength (countIn bs)) (omega (arith, a .exact))) in
+    rw (← d .1)
+    (ap (λ (n : ℕ). decided n (placed old 0 (bytesOf (contentsIn bs)))) w ∙ ap (λ (t : List ℕ). accepted (placed old 0 t)) (bytes-again bs b a))
+
+-- the first count numbers of the arrays that the reader answers
+answer-lines : (bs : List ℕ) → take (length (linesIn bs)) (padded (linesIn bs)) ≡ linesIn bs
+answer-lines bs = take-at (linesIn bs) _ _ refl
+
+answer-fractions : (bs : List ℕ) → take (length (linesIn bs)) (padded (fractionsIn bs)) ≡ fractionsIn bs
+answer-fractions bs = take-at (fractionsIn bs) _ _ (count-fractions bs ∙ sym (count-lines bs))
+
+pub answer-holds-contents : AnswerHoldsContents
+answer-holds-contents bs k e =
+    rw (← decided-accepted (firstOf (recordOrder bs)) (contentsIn bs) k e .1) (rw (answer-lines bs, answer-fractions bs))
 
 -- the entries, written and read again
 lines-again : (ls xs : List ℕ) → length ls ≡ length xs → linesOf (length ls) (entriesBytes ls xs) ≡ ls

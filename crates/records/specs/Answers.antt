@@ -9,7 +9,7 @@ use Rattle.records.specs.declared.Analysis.{Analysis}
 use Rattle.records.specs.declared.Reading.{Reading}
 use Rattle.records.specs.Order.{Outcome, refused, accepted, otherwise, mapped}
 use Rattle.records.specs.Format.{Contents}
-use Rattle.records.specs.Calls.{readingOf, writingOf, rewritingOf}
+use Rattle.records.specs.Calls.{readingOf, writingOf}
 
 module _ {A : Type 0} where
   -- document 01's number, or the value, of each case of a verdict
@@ -65,7 +65,3 @@ Reads bs r = Gives (mapped held (readingOf bs)) blank (r .verdict) (r .analysis)
 -- the writer's answer, and the buffer afterwards
 abbrev pub Writes : Contents → List ℕ → List ℕ → Verdict → Type 0
 Writes k old new r = Gives (writingOf k old) old r new
-
--- the same for reading a record and writing it again
-abbrev pub Rewrites : List ℕ → List ℕ → List ℕ → Verdict → Type 0
-Rewrites bs old new r = Gives (rewritingOf bs old) old r new

@@ -5,7 +5,7 @@ use Prim.Native.Nat.{ℕ, _+_}
 use lib.ListN.{length, take}
 use Rattle.records.specs.Order.{Outcome, firstOf, decided}
 use Rattle.records.specs.Format.{Contents, recordLength, contentsIn, bytesOf, placed}
-use Rattle.records.specs.Conditions.{recordOrder, writerOrder, rewriteOrder}
+use Rattle.records.specs.Conditions.{recordOrder, writerOrder}
 
 -- reading a list of bytes: the contents of the record
 abbrev pub readingOf : List ℕ → Outcome Contents
@@ -14,10 +14,6 @@ readingOf bs = decided (firstOf (recordOrder bs)) (contentsIn bs)
 -- writing contents into a buffer: its first 8 + 5n bytes are the record, and the others are as they were
 abbrev pub writingOf : Contents → List ℕ → Outcome (List ℕ)
 writingOf k old = decided (firstOf (writerOrder k (length old))) (placed old 0 (bytesOf k))
-
--- reading a list of bytes and writing the record again: the reader's conditions, then 20; the buffer gets the record's own bytes
-abbrev pub rewritingOf : List ℕ → List ℕ → Outcome (List ℕ)
-rewritingOf bs old = decided (firstOf (rewriteOrder bs (length old))) (placed old 0 bs)
 
 -- one byte more than the longest record, of 55 entries
 abbrev pub enough : ℕ

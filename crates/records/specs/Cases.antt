@@ -8,7 +8,7 @@ use lib.ListN.{length, take, replicate}
 use Rattle.components.specs.Tests.{all}
 use Rattle.records.specs.Order.{Outcome, refused, accepted, decided}
 use Rattle.records.specs.Format.{Contents, contents, mark, bytesOf}
-use Rattle.records.specs.Calls.{readingOf, writingOf, rewritingOf}
+use Rattle.records.specs.Calls.{readingOf, writingOf}
 
 -- two lists are the same
 unfoldable pub sameList : List ℕ → List ℕ → Bool
@@ -167,7 +167,7 @@ refusedWrites =
     ∷ (contents 15 15 (1 ∷ []) (1000000 ∷ []), (0, 20))
     ∷ []
 
--- buffers, and what writing K2 and rewriting K2 give: only the first 13 bytes change
+-- buffers, and what writing K2 gives: only the first 13 bytes change
 abbrev pub buffers : List (List ℕ × Outcome (List ℕ))
 buffers =
     (replicate 12 9, refused 20)
@@ -196,11 +196,4 @@ WritesRefused = all (λ (c : Contents × (ℕ × ℕ)). sameOutcome sameList (wr
 
 abbrev pub BuffersHold : Type 0
 BuffersHold =
-    all
-    (λ (c : List ℕ × Outcome (List ℕ)).
-    sameOutcome sameList (writingOf (contents 15 15 (1 ∷ []) (1000000 ∷ [])) (c .0)) (c .1) && sameOutcome sameList (rewritingOf k2 (c .0)) (c .1))
-    buffers ≡ true
-
--- rewritten into an empty buffer, the same bytes are refused by the same numbers: 1 to 12 come before 20
-abbrev pub DamagedNotRewritten : Type 0
-DamagedNotRewritten = all (λ (c : List ℕ × ℕ). sameOutcome sameList (rewritingOf (c .0) []) (refused (c .1))) damaged ≡ true
+    all (λ (c : List ℕ × Outcome (List ℕ)). sameOutcome sameList (writingOf (contents 15 15 (1 ∷ []) (1000000 ∷ [])) (c .0)) (c .1)) buffers ≡ true

@@ -152,10 +152,6 @@ roomOrder room n = (20, roomShort room n) ∷ []
 abbrev pub writerOrder : Contents → ℕ → Order
 writerOrder k room = startOrder k ++ (contentOrder (k .lines) (k .fractions) ++ roomOrder room (length (k .lines)))
 
--- the order of reading a record and writing it again: that of the record, then 20
-abbrev pub rewriteOrder : List ℕ → ℕ → Order
-rewriteOrder bs room = recordOrder bs ++ roomOrder room (countIn bs)
-
 -- the numbers of the content, and of a record, in the order in which they are tried
 abbrev pub contentNumbers : List ℕ
 contentNumbers = 7 ∷ 8 ∷ 9 ∷ 10 ∷ 11 ∷ 12 ∷ []
@@ -163,12 +159,9 @@ contentNumbers = 7 ∷ 8 ∷ 9 ∷ 10 ∷ 11 ∷ 12 ∷ []
 abbrev pub recordNumbers : List ℕ
 recordNumbers = 1 ∷ 2 ∷ 3 ∷ 4 ∷ 5 ∷ 6 ∷ contentNumbers
 
--- a record tries its numbers, the writer 19, 4, 5, those of the content, 20, and rewriting those of a record, 20, whatever the input
+-- a record tries its numbers, and the writer 19, 4, 5, those of the content, 20, whatever the input
 abbrev pub RecordNumbers : Type 0
 RecordNumbers = (bs : List ℕ) → numbersOf (recordOrder bs) ≡ recordNumbers
 
 abbrev pub WriterNumbers : Type 0
 WriterNumbers = (k : Contents) (room : ℕ) → numbersOf (writerOrder k room) ≡ 19 ∷ 4 ∷ 5 ∷ contentNumbers ++ (20 ∷ [])
-
-abbrev pub RewriteNumbers : Type 0
-RewriteNumbers = (bs : List ℕ) (room : ℕ) → numbersOf (rewriteOrder bs room) ≡ recordNumbers ++ (20 ∷ [])

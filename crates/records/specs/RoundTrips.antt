@@ -1,12 +1,14 @@
 -- Which bytes the writer fills, and the round trips: a record read and written again has the same bytes, and contents written and
--- read again are the same.
+-- read again are the same. Contents are those that the reader answers and that the writer is given (`AnswerHoldsContents`).
 use mathlib.Core.Path.{_≡_}
 use mathlib.Core.List.{List}
 use Prim.Native.Nat.{ℕ, _≤_}
 use lib.ListN.{length, take, drop}
+use Rattle.records.specs.declared.Analysis.{Analysis}
 use Rattle.records.specs.Order.{accepted}
-use Rattle.records.specs.Format.{Contents, Bytes, recordLength, bytesOf, placed}
+use Rattle.records.specs.Format.{Contents, contents, Bytes, recordLength, bytesOf, placed}
 use Rattle.records.specs.Calls.{readingOf, writingOf}
+use Rattle.records.specs.Answers.{held}
 
 -- the first 8 + 5n bytes of a buffer are the record, and the others are as they were
 pub record Filled (k : Contents) (old new : List ℕ) : Type 0 where
@@ -16,6 +18,14 @@ pub record Filled (k : Contents) (old new : List ℕ) : Type 0 where
 
 abbrev pub FillsItsBytes : Type 0
 FillsItsBytes = (k : Contents) (old new : List ℕ) → writingOf k old ≡ accepted new → Filled k old new
+
+-- what a caller writes who writes an answer of the reader again: its pair, and the first count numbers of both arrays
+abbrev pub contentsOf : Analysis → Contents
+contentsOf a = contents (a .combustion) (a .metering) (take (a .count) (a .lines)) (take (a .count) (a .fractions))
+
+-- of an accepted record these are its contents
+abbrev pub AnswerHoldsContents : Type 0
+AnswerHoldsContents = (bs : List ℕ) (k : Contents) → readingOf bs ≡ accepted k → contentsOf (held k) ≡ k
 
 -- the contents of an accepted record, written into a buffer that has room, are accepted and put the record's bytes there
 abbrev pub ReadThenWritten : Type 0

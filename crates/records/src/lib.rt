@@ -1,10 +1,10 @@
-// The analysis record of document 01: read, written, and read and written again. Every list of bytes, and every composition and
-// buffer, gets its answer or the one number of its refusal.
+// The analysis record of document 01, read and written. Every list of bytes, and every composition and buffer, gets its answer or the one
+// number of its refusal.
 ghost use mathlib.Core.Path.{_≡_};
 ghost use Rattle.records.specs.Order.{firstOf};
 ghost use Rattle.records.specs.Format.{contents};
 ghost use Rattle.records.specs.Conditions.{recordOrder, writerOrder};
-ghost use Rattle.records.specs.Answers.{Reads, Writes, Rewrites, verdictOf, blank};
+ghost use Rattle.records.specs.Answers.{Reads, Writes, verdictOf, blank};
 
 mod conditions;
 mod format;
@@ -138,28 +138,4 @@ pub fn write(
         format::put_record(combustion, metering, lines, fractions, out);
     }
     verdict_of(refusal)
-}
-
-// Reads a record and writes it again into a buffer.
-pub fn rewrite(bytes: &[u8], out: &mut [u8]) -> Verdict
-    ensures { λ r. ⌜ Rewrites (now (bytes .entry)) (now (out .entry)) (now (out .exit)) r ⌝ }
-{
-    let reading = read(bytes);
-    let verdict = reading.verdict;
-    let analysis = reading.analysis;
-    match verdict {
-        Verdict::Refused(number) => Verdict::Refused(number),
-        Verdict::Accepted => {
-            let n = analysis.count;
-            let lines = analysis.lines;
-            let fractions = analysis.fractions;
-            write(
-                analysis.combustion,
-                analysis.metering,
-                &lines[..n],
-                &fractions[..n],
-                out,
-            )
-        }
-    }
 }
