@@ -14,7 +14,6 @@ ghost use mathlib.Core.Path.{_≡_};
 ghost use Prim.Native.Nat.{_+_, _≤_};
 ghost use lib.ListN.{length};
 ghost use Rattle.meter.specs.State.{Sound};
-ghost use Rattle.meter.specs.Calls.{afterAnalysis, afterMetering};
 ghost use Rattle.try_meter.specs.Calls.{number8, filledBy, afterCall};
 
 // The name of a call, and the stream that it names.
@@ -23,37 +22,17 @@ fn print_call(name: &[u8], stream: usize) {
     report::print_spaced(stream as u64);
 }
 
-// The verdict of a call, and the line's end.
+fn print_refused(number: u8) {
+    report::print_line(b": refused", number as u64);
+}
+
 fn print_verdict(verdict: Verdict) {
-    report::print_text(b":");
-    report_answers::print_verdict(verdict);
-    report::end_line();
-}
-
-fn analysis(m: Meter, stream: usize, title: &[u8], bytes: &[u8]) -> Meter
-    requires { ⌜ Sound m ⌝ }
-    ensures { λ r. ⌜ (r ≡ afterAnalysis m stream (now (bytes .entry))) × Sound r ⌝ }
-{
-    let changed = meter::analysis(m, stream, bytes);
-    let given = changed.verdict;
-    let after = changed.meter;
-    print_call(b"analysis", stream);
-    report::print_text(title);
-    print_verdict(given);
-    after
-}
-
-fn metering(m: Meter, stream: usize, volume: u64) -> Meter
-    requires { ⌜ Sound m ⌝ }
-    ensures { λ r. ⌜ (r ≡ afterMetering m stream volume) × Sound r ⌝ }
-{
-    let changed = meter::metering(m, stream, volume);
-    let given = changed.verdict;
-    let after = changed.meter;
-    print_call(b"metering", stream);
-    report::print_spaced(volume);
-    print_verdict(given);
-    after
+    match verdict {
+        Verdict::Accepted => {
+            report::print_text(b": accepted\n");
+        }
+        Verdict::Refused(number) => print_refused(number),
+    }
 }
 
 // A stream takes 99,999 times 10,000,000 dm³.
@@ -69,9 +48,9 @@ fn fill(m: Meter, stream: usize) -> Meter
     filled
 }
 
-fn print_totals(m: Meter, stream: usize) {
+fn print_totals(stream: usize, answer: TotalsAnswer) {
     print_call(b"totals", stream);
-    match meter::totals(m, stream) {
+    match answer {
         TotalsAnswer::Accepted(t) => {
             let energy = t.superior;
             report::print_text(b": ");
@@ -79,20 +58,18 @@ fn print_totals(m: Meter, stream: usize) {
             report::print_amount(energy.whole, b" MJ ");
             report::print_amount(energy.rest, b" mJ\n");
         }
-        TotalsAnswer::Refused(n) => print_verdict(Verdict::Refused(n)),
+        TotalsAnswer::Refused(number) => print_refused(number),
     }
 }
 
-fn print_mean(m: Meter, stream: usize)
-    requires { ⌜ Sound m ⌝ }
-{
+fn print_mean(stream: usize, answer: MeanAnswer) {
     print_call(b"mean", stream);
-    match meter::mean(m, stream) {
+    match answer {
         MeanAnswer::Accepted(h) => {
             report::print_text(b": ");
             report::print_amount(h.value(), b" J/m3\n");
         }
-        MeanAnswer::Refused(n) => print_verdict(Verdict::Refused(n)),
+        MeanAnswer::Refused(number) => print_refused(number),
     }
 }
 
@@ -105,16 +82,26 @@ fn called(m: Meter, kind: u8, stream: usize, volume: u64, title: &[u8], bytes: &
         return meter::fresh();
     }
     if kind == b'a' {
-        return analysis(m, stream, title, bytes);
+        let changed = meter::analysis(m, stream, bytes);
+        let given = changed.verdict;
+        print_call(b"analysis", stream);
+        report::print_text(title);
+        print_verdict(given);
+        return changed.meter;
     }
     if kind == b'm' {
-        return metering(m, stream, volume);
+        let changed = meter::metering(m, stream, volume);
+        let given = changed.verdict;
+        print_call(b"metering", stream);
+        report::print_spaced(volume);
+        print_verdict(given);
+        return changed.meter;
     }
     if kind == b'f' {
         return fill(m, stream);
     }
-    print_totals(m, stream);
-    print_mean(m, stream);
+    print_totals(stream, meter::totals(m, stream));
+    print_mean(stream, meter::mean(m, stream));
     m
 }
 
