@@ -5,6 +5,9 @@
 // for every n up to 55. This is `FirstBytesDecideProperties` in crates/properties/specs/Chain.antt.
 ghost use Rattle.io.specs.Counts.{Counts};
 use libc::STDIN_FILENO;
+use properties::Answer;
+use properties::Properties;
+use report::print_line;
 
 // How many bytes stand at the start of a buffer, and whether reading failed before the input's end.
 struct Input {
@@ -37,6 +40,23 @@ fn read_input(buffer: &mut [u8]) -> Input
     }
 }
 
+fn print_properties(p: Properties) -> bool {
+    print_line(b"Z", p.z.value())
+        && print_line(b"Hs", p.hs.value())
+        && print_line(b"Hi", p.hi.value())
+        && print_line(b"rho", p.rho.value())
+        && print_line(b"d", p.d.value())
+        && print_line(b"W", p.w.value())
+}
+
+// The six lines of the properties, or the one line of a refusal. It answers whether all of it was written.
+fn print_answer(answer: Answer) -> bool {
+    match answer {
+        Answer::Accepted(p) => print_properties(p),
+        Answer::Refused(number) => print_line(b"refused", number as u64),
+    }
+}
+
 fn main() {
     let mut buffer = [0u8; 284];
     let input = read_input(&mut buffer);
@@ -45,7 +65,7 @@ fn main() {
         os::fail(b"gasprops: standard input");
         return;
     }
-    if !report_answers::print_answer(properties::properties_of(&buffer[..n])) {
+    if !print_answer(properties::properties_of(&buffer[..n])) {
         os::fail(b"gasprops: standard output");
     }
 }
