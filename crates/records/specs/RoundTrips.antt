@@ -1,5 +1,5 @@
 -- Which bytes the writer fills, and the round trips: a record read and written again has the same bytes, and contents written and
--- read again are the same. Contents are those that the reader answers and that the writer is given (`AnswerHoldsContents`).
+-- read again are the same. Who hands the reader's answer to the writer hands it the contents (`AnswerHoldsContents`).
 use mathlib.Core.Path.{_≡_}
 use mathlib.Core.List.{List}
 use Prim.Native.Nat.{ℕ, _≤_}
@@ -19,7 +19,7 @@ pub record Filled (k : Contents) (old new : List ℕ) : Type 0 where
 abbrev pub FillsItsBytes : Type 0
 FillsItsBytes = (k : Contents) (old new : List ℕ) → writingOf k old ≡ accepted new → Filled k old new
 
--- what a caller writes who writes an answer of the reader again: its pair, and the first count numbers of both arrays
+-- what the writer is given of an answer of the reader: its pair, and the first count numbers of both arrays
 abbrev pub contentsOf : Analysis → Contents
 contentsOf a = contents (a .combustion) (a .metering) (take (a .count) (a .lines)) (take (a .count) (a .fractions))
 
