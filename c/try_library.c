@@ -24,9 +24,10 @@ enum { ANALYSED, COMBUSTION, METERING, Z, HS, HI, RHO, D, W, VOLUME, ENERGY_MJ, 
 
 _Static_assert(WORDS == LOONSTOOL_STREAM_WORDS, "each word of a stream has a name");
 
-/* The highest that each word of a stream can be. */
+/* The highest that each word of a stream can be, and the lowest where it has an analysis. */
 static const uint64_t highest[WORDS] = {1,         25,        20,        1000000000,   250000000,    250000000,
                                         510000000, 390000000, 470000000, 999999999999, 249999999999, 999999999};
+static const uint64_t lowest[WORDS] = {1, 0, 0, 724000000, 4000000, 4000000, 33000000, 27590000, 900000, 0, 0, 0};
 
 static const uint8_t pairs[6][2] = {{15, 15}, {0, 0}, {15, 0}, {25, 0}, {20, 20}, {25, 20}};
 
@@ -389,8 +390,8 @@ static void try_full_stream(void)
     expect_readings(0, full, 37781616);
 }
 
-/* Whether the words of a stream can be those of a meter: none is above its highest, the energy is at most volume x the ceiling of Hs, and
- * without an analysis all are 0. */
+/* Whether the words of a stream can be those of a meter: each lies between its lowest and its highest, the energy between volume x the
+ * floor and volume x the ceiling of Hs; without an analysis all are 0. */
 static bool can_be(const uint64_t *words)
 {
     wide energy = (wide)words[ENERGY_MJ] * 1000000000 + words[ENERGY_REST];
@@ -398,11 +399,11 @@ static bool can_be(const uint64_t *words)
     if (words[ANALYSED] == 0)
         return all_are((const uint8_t *)words, WORDS * sizeof *words, 0);
     for (size_t i = 0; i < WORDS; i++)
-        if (words[i] > highest[i])
+        if (words[i] < lowest[i] || words[i] > highest[i])
             return false;
     for (size_t i = 0; i < 6; i++)
         permitted |= words[COMBUSTION] == pairs[i][0] && words[METERING] == pairs[i][1];
-    return permitted && energy <= (wide)words[VOLUME] * highest[HS];
+    return permitted && energy >= (wide)words[VOLUME] * lowest[HS] && energy <= (wide)words[VOLUME] * highest[HS];
 }
 
 /* loonstool_meter_check gives what it should on the words as they are, and does not write to them. */
@@ -422,7 +423,8 @@ static void expect_check(const char *what, size_t at)
 static void try_word(size_t stream, size_t word)
 {
     uint64_t *words = meter->words[stream], was = words[word];
-    const uint64_t values[] = {0, 1, 2, 15, 20, 25, was - 1, was + 1, highest[word], highest[word] + 1, 1000000000, UINT64_MAX};
+    const uint64_t values[] = {0,       1,       2,                15,           20,            25,               1000000000, UINT64_MAX,
+                               was - 1, was + 1, lowest[word] - 1, lowest[word], highest[word], highest[word] + 1};
     for (size_t i = 0; i < sizeof values / sizeof *values; i++) {
         words[word] = values[i];
         expect_check("a word at a limit", stream * WORDS + word);
@@ -434,17 +436,18 @@ static void try_word(size_t stream, size_t word)
     words[word] = was;
 }
 
-/* The most energy that the volume of a stream can have, and one mJ, one MJ and one rest more. */
-static void try_most_energy(size_t stream)
+/* The least or the most energy that the volume of a stream can have, and one mJ, one MJ and one rest more and less. */
+static void try_energy(size_t stream, uint64_t heat)
 {
     uint64_t *words = meter->words[stream];
-    const wide most = (wide)words[VOLUME] * highest[HS];
-    const uint64_t mj = (uint64_t)(most / 1000000000), rest = (uint64_t)(most % 1000000000);
-    const uint64_t energies[][2] = {{mj, rest}, {mj, rest + 1}, {mj, rest - 1}, {mj + 1, rest}, {mj + 1, 0}, {mj - 1, rest + 1000000000}};
+    const wide bound = (wide)words[VOLUME] * heat;
+    const uint64_t mj = (uint64_t)(bound / 1000000000), rest = (uint64_t)(bound % 1000000000);
+    const uint64_t energies[][2] = {{mj, rest},  {mj, rest + 1}, {mj, rest - 1}, {mj + 1, rest},
+                                   {mj + 1, 0}, {mj - 1, rest}, {mj - 1, rest + 1000000000}};
     for (size_t i = 0; i < sizeof energies / sizeof *energies; i++) {
         words[ENERGY_MJ] = energies[i][0];
         words[ENERGY_REST] = energies[i][1];
-        expect_check("the most energy", stream);
+        expect_check("energy at its bound", stream);
     }
     memcpy(words, saved.words[stream], sizeof saved.words[stream]);
 }
@@ -468,7 +471,8 @@ static void try_damages(void)
     for (size_t stream = 0; stream < LOONSTOOL_STREAMS; stream++) {
         for (size_t word = 0; word < WORDS; word++)
             try_word(stream, word);
-        try_most_energy(stream);
+        try_energy(stream, lowest[HS]);
+        try_energy(stream, highest[HS]);
         try_pairs(stream);
     }
     expect(memcmp(meter, &saved, sizeof saved) == 0, "the damages were undone", 0);

@@ -90,6 +90,16 @@ impl Properties {
         d: 390_000_000,
         w: 470_000_000,
     };
+
+    /// What no property of an accepted record is below.
+    pub const FLOORS: Properties = Properties {
+        z: 724_000_000,
+        hs: 4_000_000,
+        hi: 4_000_000,
+        rho: 33_000_000,
+        d: 27_590_000,
+        w: 900_000,
+    };
 }
 
 /// What a record says: the pair of temperatures in °C, and `count` entries. Past the entries stands 0.

@@ -10,6 +10,7 @@ const WRAPPERS: [&str; 2] = [
 const RECORDS: &str = include_str!("../../crates/records/specs/Conditions.antt");
 const METER: &str = include_str!("../../crates/meter/specs/Conditions.antt");
 const QUANTITIES: &str = include_str!("../../crates/properties/specs/Quantities.antt");
+const BOUNDS: &str = include_str!("../../crates/properties/specs/Bounds.antt");
 
 /// Name, number and comment of a line of the enum.
 fn refusal(line: &str) -> Option<(&str, u8, &str)> {
@@ -135,16 +136,16 @@ fn property(line: &str) -> Option<(&str, &str, u64)> {
     Some((name, unit, ceiling.parse().ok()?))
 }
 
-/// The text of a definition of specs/Quantities.antt.
-fn defined(name: &str) -> &'static str {
+/// The text of a definition of a file of specs/.
+fn defined(file: &'static str, name: &str) -> &'static str {
     let start = format!("\n{name} = ");
-    let (_, rest) = QUANTITIES.split_once(&start).expect(name);
+    let (_, rest) = file.split_once(&start).expect(name);
     rest.lines().next().unwrap_or_default()
 }
 
 /// The elements of a list of specs/Quantities.antt, in the order Z, Hs, Hi, rho, d, W.
 fn elements(name: &str) -> Vec<&'static str> {
-    let list = defined(name).strip_suffix(" ∷ []").expect(name);
+    let list = defined(QUANTITIES, name).strip_suffix(" ∷ []").expect(name);
     list.split(" ∷ ").collect()
 }
 
@@ -171,7 +172,8 @@ fn units_and_ceilings() {
     assert_eq!(named.collect::<Vec<_>>(), here);
     let scales = in_header.iter().map(|(_, unit, _)| scale(unit));
     assert_eq!(scales.collect::<Vec<_>>(), elements("scales"));
-    let bounds = elements("bounds").into_iter().map(defined);
+    let bounds = elements("bounds");
+    let bounds = bounds.into_iter().map(|name| defined(QUANTITIES, name));
     let ceilings = here.map(|(_, ceiling)| ceiling.to_string());
     assert_eq!(bounds.collect::<Vec<_>>(), ceilings);
 }
@@ -205,4 +207,26 @@ fn totals() {
     let here = fields(WRAPPERS[1], "pub struct Totals {", "pub ");
     assert_eq!(in_c, here);
     assert_eq!(here.len(), 3);
+}
+
+#[test]
+fn floors() {
+    let Properties {
+        z,
+        hs,
+        hi,
+        rho,
+        d,
+        w,
+    } = Properties::FLOORS;
+    for (name, floor) in [
+        ("compressionLow", z),
+        ("calorificLow", hs),
+        ("calorificLow", hi),
+        ("densityLow", rho),
+        ("relativeLow", d),
+        ("wobbeLow", w),
+    ] {
+        assert_eq!(defined(BOUNDS, name), floor.to_string(), "{name}");
+    }
 }

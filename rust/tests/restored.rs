@@ -114,6 +114,7 @@ fn compare_calls(mut meter: Meter, stream: usize) {
 /// Numbers on and past what limits a word, the temperatures among them.
 fn limits() -> Vec<u64> {
     let ceilings = plain::six(&Properties::CEILINGS);
+    let floors = plain::six(&Properties::FLOORS);
     let greatest = [
         1,
         15,
@@ -125,7 +126,11 @@ fn limits() -> Vec<u64> {
     ];
     let past = |limit: &u64| [*limit, limit + 1];
     let on_and_past = greatest.iter().chain(&ceilings).flat_map(past);
-    on_and_past.chain([0, u64::MAX]).collect()
+    let on_and_below = floors.into_iter().flat_map(|floor| [floor, floor - 1]);
+    on_and_past
+        .chain(on_and_below)
+        .chain([0, u64::MAX])
+        .collect()
 }
 
 /// What a word may be damaged to.
@@ -214,8 +219,12 @@ fn energy_at_its_bound() {
     let (mut meter, mut random) = (metered(), Random::new(SEED));
     let some = (0..2_000).map(|_| random.below(GREATEST_TOTAL + 1));
     for volume in (0..2_000).chain(some).chain([GREATEST_TOTAL]) {
-        let bound = u128::from(volume) * u128::from(Properties::CEILINGS.hs);
-        for energy in [bound.saturating_sub(1), bound, bound + 1] {
+        let bounds = [Properties::FLOORS.hs, Properties::CEILINGS.hs];
+        let bounds = bounds.map(|hs| u128::from(volume) * u128::from(hs));
+        for energy in bounds
+            .into_iter()
+            .flat_map(|bound| [bound.saturating_sub(1), bound, bound + 1])
+        {
             let mega = u128::from(MEGAJOULE);
             let (whole, rest) = ((energy / mega) as u64, (energy % mega) as u64);
             // The second is the same energy with a rest that is too great, where there is a whole MJ.

@@ -26,7 +26,8 @@ pub fn row_of(stream: &Stream) -> [u64; STREAM_WORDS] {
 }
 
 /// Whether everything holds of words that holds of every meter, as made or as
-/// its calls left it. The ceilings are the library's, as the paper has it.
+/// its calls left it. Floors and ceilings are the library's: the paper gives
+/// none.
 pub fn hold_a_meter(words: &Words) -> bool {
     let mut rows = words.iter().map(|row| row.map(u128::from));
     rows.all(holds_a_stream)
@@ -34,9 +35,13 @@ pub fn hold_a_meter(words: &Words) -> bool {
 
 fn holds_a_stream(row: [u128; STREAM_WORDS]) -> bool {
     let [analysed, combustion, metering, z, hs, hi, rho, d, w, volume, whole, rest] = row;
+    let floors = six(&Properties::FLOORS).map(u128::from);
     let ceilings = six(&Properties::CEILINGS).map(u128::from);
-    let within = |six: [u128; 6]| six.iter().zip(ceilings).all(|(p, most)| *p <= most);
-    // Every dm³ was metered at an Hs that is at most its ceiling.
+    let within = |six: [u128; 6]| {
+        let between = |i: usize| (floors[i]..=ceilings[i]).contains(&six[i]);
+        (0..6).all(between)
+    };
+    // Every dm³ was metered at an Hs between its floor and its ceiling.
     let energy = whole * u128::from(MEGAJOULE) + rest;
     match analysed {
         // Nothing is metered without an analysis.
@@ -46,7 +51,7 @@ fn holds_a_stream(row: [u128; STREAM_WORDS]) -> bool {
                 && within([z, hs, hi, rho, d, w])
                 && volume <= GREATEST_TOTAL.into()
                 && rest < MEGAJOULE.into()
-                && energy <= volume * ceilings[1]
+                && (volume * floors[1]..=volume * ceilings[1]).contains(&energy)
         }
         _ => false,
     }
