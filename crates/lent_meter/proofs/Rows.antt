@@ -7,15 +7,14 @@ use native.Mathlib.Omega.{arith}
 use borrow.Author.Tests.{lt-ltb, le-ltb, eq-eqb, ne-eqb}
 use lib.Dec.{eqb}
 use lib.ListN.{getD}
-use Rattle.records.specs.Order.{Order, firstOf, refused, accepted}
-use Rattle.records.specs.Format.{combustionIn, meteringIn}
+use Rattle.records.specs.Order.{Order, firstOf}
+use Rattle.records.specs.Format.{combustionIn, meteringIn, contentsIn}
 use Rattle.records.specs.Conditions.{recordOrder}
 use Rattle.records.proofs.OrderLaws.{stops, passes}
 use Rattle.properties.specs.declared.Properties.{Properties}
-use Rattle.properties.specs.Chain.{Six, propertiesOf}
+use Rattle.properties.specs.Chain.{Six, sixOf}
 use Rattle.properties.specs.Answers.{numbers, quantities}
 use Rattle.properties.specs.Quantities.{Bounded}
-use Rattle.properties.proofs.Outcomes.{number-of-refused, clear-of-accepted}
 use Rattle.meter.specs.declared.InForce.{InForce}
 use Rattle.meter.specs.declared.InForce.the-variants.{Nothing, Known}
 use Rattle.meter.specs.declared.StreamTotals.{StreamTotals}
@@ -95,17 +94,15 @@ module _ {row : List ℕ} (s : Stream) (holds : row ≡ packedStream s) (bs : Li
   abbrev fourteen : Order
   fourteen = pairOrder (pairDiffers (s .analysis) (combustionIn bs) (meteringIn bs))
 
-  pub record-refused : {n : ℕ} → refused n ≡ propertiesOf bs → n ≡ firstOf (rowAnalysisOrder s bs)
-  record-refused e = let r = number-of-refused bs _ e in stops (recordOrder bs) fourteen (r .0) (r .1)
+  pub record-refused : {n : ℕ} → n ≡ firstOf (recordOrder bs) → (n ≡ 0 → ⊥) → n ≡ firstOf (rowAnalysisOrder s bs)
+  record-refused = stops (recordOrder bs) fourteen
 
-  module _ (p : Properties) {c m : ℕ} (is : accepted (numbers p) ≡ propertiesOf bs) (first : c ≡ combustionIn bs) (second : m ≡ meteringIn bs) where
-    pub record-accepted : {n : ℕ} → n ≡ firstOf (pairOrder (wordsDiffer row c m)) → n ≡ firstOf (rowAnalysisOrder s bs)
-    record-accepted h =
+  module _ {c m : ℕ} (first : c ≡ combustionIn bs) (second : m ≡ meteringIn bs) where
+    pub record-accepted : firstOf (recordOrder bs) ≡ 0 → {b : Bool} → wordsDiffer row c m ≡ b → firstOf (pairOrder b) ≡ firstOf (rowAnalysisOrder s bs)
+    record-accepted clear h =
         let differs : wordsDiffer row c m ≡ pairDiffers (s .analysis) (combustionIn bs) (meteringIn bs) =
         (λ i. wordsDiffer (holds i) (first i) (second i)) ∙ pair-words (s .totals) (s .analysis) (combustionIn bs) (meteringIn bs) in
-        passes (recordOrder bs) fourteen tt refl (clear-of-accepted bs (numbers p) is .0) (h ∙ ap (λ (b : Bool). firstOf (pairOrder b)) differs)
+        passes (recordOrder bs) fourteen tt refl clear (ap (λ (x : Bool). firstOf (pairOrder x)) (sym h ∙ differs))
 
-    pub row-analysed : withGasWords row c m (numbers p) ≡ packedStream (analysed s bs)
-    row-analysed =
-        (λ i. withGasWords (holds i) (first i) (second i) (sym (clear-of-accepted bs (numbers p) is .1) i))
-        ∙ put-gas (s .totals) (s .analysis) _ _ _
+    pub row-analysed : {six : Six} → six ≡ sixOf (contentsIn bs) → withGasWords row c m six ≡ packedStream (analysed s bs)
+    row-analysed e = (λ i. withGasWords (holds i) (first i) (second i) (e i)) ∙ put-gas (s .totals) (s .analysis) _ _ _

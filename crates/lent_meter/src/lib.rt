@@ -5,7 +5,6 @@ mod held;
 mod words;
 
 use meter::MeanAnswer;
-use properties::Answer;
 use words::Row;
 ghost use mathlib.Core.Path.{_≡_};
 ghost use Prim.Native.Nat.{ℕ};
@@ -46,20 +45,19 @@ fn wide(byte: u8) -> u64
 fn analysis_row(row: &mut Row, bytes: &[u8]) -> u8
     ensures { λ r. ⌜ OnRow (λ (s : Stream). rowAnalysis s (now (bytes .entry))) (now (row .entry)) r (now (row .exit)) ⌝ }
 {
-    match properties::properties_of(bytes) {
-        Answer::Refused(refusal) => refusal,
-        Answer::Accepted(p) => {
-            let combustion = wide(records::combustion_in(bytes));
-            let metering = wide(records::metering_in(bytes));
-            let differs = (row[words::COMBUSTION] != combustion)
-                | (row[words::METERING] != metering);
-            let refusal = meter::pair_refusal((row[words::ANALYSED] != 0) & differs);
-            if refusal == 0 {
-                words::put_gas(row, combustion, metering, p);
-            }
-            refusal
-        }
+    let refusal = records::refusal(bytes);
+    if refusal != 0 {
+        return refusal;
     }
+    let combustion = wide(records::combustion_in(bytes));
+    let metering = wide(records::metering_in(bytes));
+    let differs = (row[words::COMBUSTION] != combustion) | (row[words::METERING] != metering);
+    if (row[words::ANALYSED] != 0) & differs {
+        return 14;
+    }
+    let properties = properties::calculate(bytes);
+    words::put_gas(row, combustion, metering, properties);
+    0
 }
 
 // The properties of a record come into force on a stream.
@@ -84,7 +82,7 @@ fn metering_row(row: &mut Row, volume: u64) -> u8
         return 16;
     }
     let totals = words::totals_in(row);
-    if meter::MOST_TOTAL - totals.volume < volume {
+    if meter::MOST_TOTAL < totals.volume + volume {
         return 17;
     }
     let properties = words::properties_in(row);

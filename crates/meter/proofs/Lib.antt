@@ -2,6 +2,6 @@ mod Outcomes
 pub mod Orders
 pub mod Registers
 pub mod Streams
-pub mod Analyses
+mod Analyses
 mod Means
 pub mod Kept

@@ -107,7 +107,7 @@ fn pair_differs(earlier: InForce, combustion: u8, metering: u8) -> bool
 }
 
 // 14 where it holds, 0 where not.
-pub fn pair_refusal(fourteen: bool) -> u8
+fn pair_refusal(fourteen: bool) -> u8
     ensures { λ r. ⌜ r ≡ firstOf (pairOrder fourteen) ⌝ }
 {
     if fourteen {

@@ -34,7 +34,7 @@ pub enum Answer {
 }
 
 // The properties of an accepted record.
-fn calculate(bytes: &[u8]) -> Properties
+pub fn calculate(bytes: &[u8]) -> Properties
     requires { ⌜ firstOf (recordOrder (now bytes)) ≡ 0 ⌝ }
     ensures { λ r. ⌜ numbers r ≡ sixOf (contentsIn (now (bytes .entry))) ⌝ }
 {

@@ -1,92 +1,76 @@
 -- The record's number, 14, or the row with the record's gas.
-use mathlib.Core.Path.{_≡_, refl, sym, ap, _∙_}
+use mathlib.Core.Path.{_≡_, refl, sym, _∙_}
 use mathlib.Core.List.{List}
 use Prim.Native.Nat.{ℕ}
+use native.Mathlib.Omega.{arith}
 use borrow.Author.Needs.{needs}
-use Rattle.records.specs.Order.{firstOf, accepted}
+use Rattle.records.specs.Order.{firstOf}
 use Rattle.records.specs.Format.{combustionIn, meteringIn}
-use Rattle.records.proofs.Heads.{Head}
-use Rattle.properties.specs.declared.Properties.{Properties}
-use Rattle.properties.specs.Chain.{propertiesOf}
-use Rattle.properties.specs.Answers.{numbers, meaning}
-use Rattle.properties.proofs.Outcomes.{number-of-refused}
-use Rattle.meter.specs.declared.Stream.{Stream}
+use Rattle.records.specs.Conditions.{recordOrder}
+use Rattle.records.proofs.RoundTrips.{accepted-head}
 use Rattle.meter.specs.Calls.{analysed}
-use Rattle.meter.proofs.Analyses.{record-head}
 use Rattle.lent_meter.specs.Words.{packedStream}
-use Rattle.lent_meter.specs.Lent.{rowAnalysisOrder}
 use Rattle.lent_meter.proofs.Outcomes.{refusal, acceptance}
 use Rattle.lent_meter.proofs.Rows.{record-refused, record-accepted, row-analysed}
 use Rattle.lent_meter.proofs.analysis_row.Statement.{statement}
 use Rattle.lent_meter.proofs.analysis_row.Tie as tie
 
 -- an accepted record
-module _ (c : tie.After-p) where
+module _ (c : tie.Else1) where
   abbrev bs : List ℕ
-  bs = c .before .before .before .before .args .bytes .now
+  bs = c .before .before .before .args .bytes .now
 
-  abbrev p : Properties
-  p = c .p .given .0 .0
+  accepts : firstOf (recordOrder bs) ≡ 0
+  accepts = sym (c .before .refusal .ensures) ∙ c .if1 .left
 
-  is-accepted : accepted (numbers p) ≡ propertiesOf bs
-  is-accepted = sym (ap meaning (c .p .given .1)) ∙ c .before .before .properties-of .ensures
-
-  long : Head bs
-  long = record-head bs p is-accepted
-
--- what was found of it
-module _ (c : tie.After-pair-refusal) where
-  abbrev second : tie.After-wide2
-  second = c .before .before .before .before
-
+-- its pair
+module _ (c : tie.After-wide2) where
   abbrev first : tie.After-wide
-  first = second .before .before
+  first = c .before .before
 
-  abbrev found : tie.After-p
-  found = first .before .before .before
+  abbrev found : tie.Else1
+  found = first .before .before
 
   combustion-is : first .wide .result ≡ combustionIn (bs found)
   combustion-is = first .wide .ensures ∙ first .before .combustion-in .ensures
 
-  metering-is : second .wide2 .result ≡ meteringIn (bs found)
-  metering-is = second .wide2 .ensures ∙ second .before .metering-in .ensures
-
-  number-is : (s : Stream) → found .before .before .before .before .args .row .now ≡ packedStream s → c .pair-refusal .result ≡ firstOf (rowAnalysisOrder s (bs found))
-  number-is s holds = record-accepted s holds (bs found) (p found) (is-accepted found) combustion-is metering-is (c .pair-refusal .ensures)
+  metering-is : c .wide2 .result ≡ meteringIn (bs found)
+  metering-is = c .wide2 .ensures ∙ c .before .metering-in .ensures
 
 returns : tie.Need-returns
 returns c s sound holds =
-    let a = c .before .before .before in
-    let bytes = a .before .before .args .bytes .now in
-    let e = sym (ap meaning (c .before .refusal .given .1)) ∙ a .properties-of .ensures in
-    refusal packedStream (analysed s bytes) _ (record-refused s holds bytes e) (number-of-refused bytes _ e .1) refl
+    let r = c .before in
+    let bytes = r .before .before .args .bytes .now in
+    refusal packedStream (analysed s bytes) _ (record-refused s holds bytes (r .refusal .ensures) (c .if1 .taken)) (c .if1 .taken) refl
 
 returns-2 : tie.Need-returns-2
 returns-2 c s sound holds =
-    let d = c .before .before .before in
-    let a = found d in
-    acceptance packedStream (analysed s (bs a)) _ (number-is d s holds) (c .before .before .if1 .taken)
-    (c .put-gas .ensures ∙ row-analysed s holds (bs a) (p a) (is-accepted a) (combustion-is d) (metering-is d))
+    let w = c .before .before .before .before in
+    let e = found w in
+    refusal packedStream (analysed s (bs e)) _ (record-accepted s holds (bs e) (combustion-is w) (metering-is w) (accepts e) (c .if2 .taken)) (λ z. omega arith) refl
 
 returns-3 : tie.Need-returns-3
-returns-3 c s sound holds = refusal packedStream (analysed s (bs (found (c .before)))) _ (number-is (c .before) s holds) (c .if1 .left) refl
+returns-3 c s sound holds =
+    let p = c .before .before in
+    let w = p .before .before .before .before .before in
+    let e = found w in
+    acceptance packedStream (analysed s (bs e)) _ (record-accepted s holds (bs e) (combustion-is w) (metering-is w) (accepts e) (p .before .if2 .left)) refl
+    (c .put-gas .ensures ∙ row-analysed s holds (bs e) (combustion-is w) (metering-is w) (p .calculate .ensures))
 
 pub analysis-row-spec : {M : Type 1} → statement M
 analysis-row-spec =
     tie.close
     (tie.spec
     (λ c κs. search needs)
-    (λ c. search needs)
-    (λ c. search needs)
-    (λ c κs. long (c .before) .long)
-    (λ c κs. search needs)
-    (λ c κs. long (c .before .before .before) .long)
-    (λ c κs. search needs)
-    (λ c. search needs)
-    (λ c. search needs)
-    (λ c. search needs)
-    (λ c κs. search needs)
-    (λ c κs. search needs)
     returns
+    (λ c κs. accepted-head (bs c) (accepts c) .long)
+    (λ c κs. search needs)
+    (λ c κs. accepted-head (bs (c .before .before)) (accepts (c .before .before)) .long)
+    (λ c κs. search needs)
+    (λ c. search needs)
+    (λ c. search needs)
+    (λ c. search needs)
     returns-2
+    (λ c κs. search needs)
+    (λ c κs. search needs)
     returns-3)

@@ -37,8 +37,8 @@ returns-2 c s sound holds =
     let v = e .before .args .volume in
     refusal packedStream (metered s v) _ (sixteen s v (e .if1 .left) (none-is s holds (eq-eqb _ 0 (c .if2 .taken)))) (λ z. omega arith) refl
 
-sub-if3 : tie.Need-sub-if3
-sub-if3 c = sound (c .before) .volume
+add-if3 : tie.Need-add-if3
+add-if3 c = omega (arith, sound (c .before) .volume, c .before .before .before .before .before .if1 .left)
 
 returns-3 : tie.Need-returns-3
 returns-3 c s sound holds =
@@ -47,7 +47,7 @@ returns-3 c s sound holds =
     let e = d .before .before in
     let v = e .before .args .volume in
     refusal packedStream (metered s v) _
-    (seventeen s v (e .if1 .left) (none-is s holds (ne-eqb _ 0 (d .if2 .left))) (omega (arith, c .if3 .taken, volume-is t s holds, sound .totals .volume)))
+    (seventeen s v (e .if1 .left) (none-is s holds (ne-eqb _ 0 (d .if2 .left))) (omega (arith, c .if3 .taken, volume-is t s holds)))
     (λ z. omega arith) refl
 
 properties-in-requires : tie.Need-properties-in-requires
@@ -60,7 +60,7 @@ added-requires c κs =
     let t = d .before .before in
     let l = start t .pre in
     let e = t .before .before .before .before in
-    ((sound t, rw (p .properties-in .ensures) (six-bounded (l .stream) (l .holds) (l .sound))), (e .if1 .left, omega (arith, d .if3 .left, sound t .volume)))
+    ((sound t, rw (p .properties-in .ensures) (six-bounded (l .stream) (l .holds) (l .sound))), (e .if1 .left, d .if3 .left))
 
 returns-4 : tie.Need-returns-4
 returns-4 c s sound holds =
@@ -73,7 +73,7 @@ returns-4 c s sound holds =
     let v = e .before .args .volume in
     let some = none-is s holds (ne-eqb _ 0 (d .if2 .left)) in
     acceptance packedStream (metered s v) _
-    (clear s v (e .if1 .left) some (omega (arith, b .if3 .left, volume-is t s holds, sound .totals .volume))) refl
+    (clear s v (e .if1 .left) some (omega (arith, b .if3 .left, volume-is t s holds))) refl
     (c .put-totals .ensures ∙ row-metered s holds some v (t .totals-in .ensures) (p .properties-in .ensures) (a .added .ensures))
 
 pub metering-row-spec : {M : Type 1} → statement M
@@ -84,7 +84,7 @@ metering-row-spec =
     (λ c. search needs)
     returns-2
     (λ c κs. search needs)
-    sub-if3
+    add-if3
     returns-3
     properties-in-requires
     added-requires
