@@ -70,13 +70,13 @@ pub const TABLE: [[i32; 12]; 55] = [
     ROW_51, ROW_52, ROW_53, ROW_54, ROW_55,
 ];
 
-// The row of a line, counted from 1. `% 55` tells the compiler that no other number comes, so it tests nothing, and reads a column from 55
-// numbers in a row.
+// The row of a line, counted from 1. `% 64` tells the compiler that no other number comes than those that have an arm, so it tests nothing,
+// and reads a column from 64 numbers in a row; the last nine are never read.
 pub fn row(line: u8) -> [i32; 12]
     requires { ⌜ (1 ≤ line) × (line ≤ 55) ⌝ }
     ensures { λ r. ⌜ r ≡ rowOf line ⌝ }
 {
-    match (line - 1) % 55 {
+    match (line - 1) % 64 {
         0 => ROW_1, 1 => ROW_2, 2 => ROW_3, 3 => ROW_4, 4 => ROW_5, 5 => ROW_6,
         6 => ROW_7, 7 => ROW_8, 8 => ROW_9, 9 => ROW_10, 10 => ROW_11, 11 => ROW_12,
         12 => ROW_13, 13 => ROW_14, 14 => ROW_15, 15 => ROW_16, 16 => ROW_17, 17 => ROW_18,
@@ -86,7 +86,8 @@ pub fn row(line: u8) -> [i32; 12]
         36 => ROW_37, 37 => ROW_38, 38 => ROW_39, 39 => ROW_40, 40 => ROW_41, 41 => ROW_42,
         42 => ROW_43, 43 => ROW_44, 44 => ROW_45, 45 => ROW_46, 46 => ROW_47, 47 => ROW_48,
         48 => ROW_49, 49 => ROW_50, 50 => ROW_51, 51 => ROW_52, 52 => ROW_53, 53 => ROW_54,
-        54 => ROW_55,
+        54 => ROW_55, 55 => ROW_55, 56 => ROW_55, 57 => ROW_55, 58 => ROW_55, 59 => ROW_55,
+        60 => ROW_55, 61 => ROW_55, 62 => ROW_55, 63 => ROW_55,
         _ => ROW_55,
     }
 }

@@ -17,11 +17,15 @@ above : (n x : ℕ) → NoneBelow n x → n ≤ x
 above zero x none = omega arith
 above (suc n) x (none, other) = let less = above n x none in omega (arith, other)
 
-place : (s : tie.Start) {k : ℕ} → (s .args .line - 1) % 55 ≡ k → s .args .line - 1 ≡ k
-place s e = sym (mod-eq-of-lt {n = s .args .line - 1} {m = 55} (omega arith)) ∙ e
+place : (s : tie.Start) {k : ℕ} → (s .args .line - 1) % 64 ≡ k → s .args .line - 1 ≡ k
+place s e = sym (mod-eq-of-lt {n = s .args .line - 1} {m = 64} (omega arith)) ∙ e
 
-none-left : (l : ℕ) → NoneBelow 55 (l % 55) → ⊥
-none-left l none = omega (arith, above 55 (l % 55) none, mod-lt l {m = 55} (omega arith))
+none-left : (l : ℕ) → NoneBelow 64 (l % 64) → ⊥
+none-left l none = omega (arith, above 64 (l % 64) none, mod-lt l {m = 64} (omega arith))
+
+-- no line is above 55
+never : (s : tie.Start) {k : ℕ} → 55 ≤ k → (s .args .line - 1) % 64 ≡ k → ⊥
+never s high e = omega (arith, place s e, high)
 
 pub row-spec : {M : Type 1} → statement M
 unfolding componentTable
@@ -48,4 +52,9 @@ row-spec =
     (λ c. rw (place (c .before) (c .match .keys49))) (λ c. rw (place (c .before) (c .match .keys50))) (λ c. rw (place (c .before) (c .match .keys51)))
     (λ c. rw (place (c .before) (c .match .keys52))) (λ c. rw (place (c .before) (c .match .keys53))) (λ c. rw (place (c .before) (c .match .keys54)))
     (λ c. rw (place (c .before) (c .match .keys55)))
+    (λ c. absurd (never (c .before) (omega arith) (c .match .keys56))) (λ c. absurd (never (c .before) (omega arith) (c .match .keys57)))
+    (λ c. absurd (never (c .before) (omega arith) (c .match .keys58))) (λ c. absurd (never (c .before) (omega arith) (c .match .keys59)))
+    (λ c. absurd (never (c .before) (omega arith) (c .match .keys60))) (λ c. absurd (never (c .before) (omega arith) (c .match .keys61)))
+    (λ c. absurd (never (c .before) (omega arith) (c .match .keys62))) (λ c. absurd (never (c .before) (omega arith) (c .match .keys63)))
+    (λ c. absurd (never (c .before) (omega arith) (c .match .keys64)))
     (λ c. absurd (none-left _ (c .match .rest))))
