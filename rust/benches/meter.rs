@@ -1,6 +1,6 @@
 //! Times the library's meter against the plain meter in one process, both
-//! changed in place, each side one call: the archive's functions are not
-//! inlined, and neither are those of the plain meter here.
+//! changed in place, each side one call through an address: the archive's
+//! functions are called so, and those of the plain meter here too.
 //!
 //! `cargo bench --offline --bench meter`
 
@@ -93,6 +93,7 @@ fn metering() -> f64 {
     let repeated = |calls: u32| black_box(&list).iter().cycle().take(calls as usize);
     let mut meters = Meters::analysed();
     let Meters { library, plain } = &mut meters;
+    let called: fn(&mut plain::Meter, usize, u64) -> Result<(), u8> = black_box(metering_called);
     let of_library: Side = Box::new(|calls| {
         for (stream, volume) in repeated(calls) {
             let accepted = library.metering(*stream, *volume);
@@ -101,7 +102,7 @@ fn metering() -> f64 {
     });
     let of_plain: Side = Box::new(|calls| {
         for (stream, volume) in repeated(calls) {
-            let accepted = metering_called(plain, *stream, *volume);
+            let accepted = called(plain, *stream, *volume);
             accepted.expect("the volume is accepted");
         }
     });
@@ -114,6 +115,7 @@ fn metering() -> f64 {
 fn analysis(name: &str, record: &[u8]) -> f64 {
     let mut meters = Meters::analysed();
     let Meters { library, plain } = &mut meters;
+    let called: fn(&mut plain::Meter, usize, &[u8]) -> Result<(), u8> = black_box(analysis_called);
     let of_library: Side = Box::new(|calls| {
         for _ in 0..calls {
             let accepted = library.analysis(black_box(3), black_box(record));
@@ -122,7 +124,7 @@ fn analysis(name: &str, record: &[u8]) -> f64 {
     });
     let of_plain: Side = Box::new(|calls| {
         for _ in 0..calls {
-            let accepted = analysis_called(plain, black_box(3), black_box(record));
+            let accepted = called(plain, black_box(3), black_box(record));
             accepted.expect("the record is accepted");
         }
     });
