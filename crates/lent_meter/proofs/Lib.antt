@@ -1,4 +1,6 @@
 mod Outcomes
 mod Rows
 mod Telling
+mod Tests
+mod Holding
 pub mod Kept

@@ -8,7 +8,7 @@ use native.Mathlib.Omega.{arith}
 use lib.Dec.{ltb}
 use lib.ListN.{length, getD, set}
 use lib.Seq.{set-getD}
-use Rattle.records.specs.Order.{Order, Outcome, refused, accepted, firstOf, otherwise, decided, mapped}
+use Rattle.records.specs.Order.{Order, firstOf, otherwise, decided, mapped}
 use Rattle.records.specs.Answers.{numberOf, Returns}
 use Rattle.records.proofs.OrderLaws.{beside, mapped-decided}
 use Rattle.meter.specs.declared.Stream.{Stream}

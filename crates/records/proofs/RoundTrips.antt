@@ -12,7 +12,7 @@ use Rattle.components.specs.Composition.{mostSum, total}
 use Rattle.records.specs.Order.{Order, firstOf, accepted, decided}
 use Rattle.records.specs.Format.{Contents, Bytes, entriesAt, recordLength, number4, combustionIn, meteringIn, countIn, entriesIn, linesOf, fractionsOf, linesIn, fractionsIn, contentsIn, headBytes, entryBytes, entriesBytes, bytesOf, placed}
 use Rattle.records.specs.Conditions.{leastSum, headOrder, contentOrder, recordOrder, startOrder, roomOrder, writerOrder}
-use Rattle.records.specs.Calls.{readingOf, writingOf}
+use Rattle.records.specs.Calls.{readingOf}
 use Rattle.records.specs.Answers.{padded}
 use Rattle.records.specs.RoundTrips.{AnswerHoldsContents, FillsItsBytes, ReadThenWritten, WrittenThenRead}
 use Rattle.records.proofs.OrderLaws.{passes, clear-first, clear-second, unmet, neither, both, decided-accepted}

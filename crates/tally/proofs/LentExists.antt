@@ -1,15 +1,14 @@
 -- The claim on lent words is not empty: there are fresh words, and every list of calls has a run from all words that hold a meter.
-use mathlib.Core.Path.{_≡_, refl, sym, ap, subst, _∙_}
+use mathlib.Core.Path.{_≡_, refl, sym, subst}
 use mathlib.Core.List.{List, [], _∷_}
-use Prim.Native.Nat.{ℕ, zero, suc}
+use Prim.Native.Nat.{ℕ}
 use denote.Ref.{RefT, now}
-use Rattle.records.specs.Order.{Outcome, firstOf, decided, otherwise, mapped}
+use Rattle.records.specs.Order.{Outcome, otherwise, mapped}
 use Rattle.records.specs.Answers.{numberOf, Returns}
 use Rattle.meter.specs.declared.Meter.{Meter}
 use Rattle.meter.specs.State.{Sound, freshMeter}
 use Rattle.meter.specs.Calls.{analysisOf, meteringOf, totalsOf, meanOf, afterAnalysis, afterMetering}
 use Rattle.lent_meter.specs.Words.{packedTotals, packed}
-use Rattle.lent_meter.specs.Lent.{Lent}
 use Rattle.lent_meter.proofs.Kept.{packed-otherwise, sound-after-analysis, sound-after-metering, words-tell}
 use Rattle.tally.specs.Tally.{Ask, analysis, metering, totals, mean, Call, on, Answer}
 use Rattle.tally.specs.LentRun.{Words, LentStep, by-analysis, by-metering, by-totals, by-mean, ended, after, HasLentRun, EveryListHasLentRun, HasFreshWords}

@@ -1,6 +1,6 @@
 -- Each of the 16 rows.
 use borrow.Author.Needs.{needs}
-use Rattle.lent_meter.proofs.Telling.{words-hold}
+use Rattle.lent_meter.proofs.Holding.{words-hold}
 use Rattle.lent_meter.proofs.check.Statement.{statement}
 use Rattle.lent_meter.proofs.check.Tie as tie
 

@@ -1,10 +1,6 @@
 -- The rest below one whole, and an amount from volume × floor to volume × ceiling.
-use mathlib.Core.Bool.{_&&_}
 use borrow.Author.Needs.{needs}
-use lib.Dec.{ltb}
-use Rattle.meter.specs.State.{SoundRegister}
-use Rattle.lent_meter.specs.Check.{Tells, atMost}
-use Rattle.lent_meter.proofs.Telling.{register-holds}
+use Rattle.lent_meter.proofs.Tests.{register-holds}
 use Rattle.lent_meter.proofs.held.holds_register.Statement.{statement}
 use Rattle.lent_meter.proofs.held.holds_register.Tie as tie
 

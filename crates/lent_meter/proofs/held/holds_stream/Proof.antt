@@ -1,10 +1,11 @@
 -- 0 everywhere, or an analysis with its totals.
-use mathlib.Core.Path.{_≡_, refl, sym, ap, _∙_}
+use mathlib.Core.Path.{_≡_, sym, ap, _∙_}
 use mathlib.Core.List.{List}
 use Prim.Native.Nat.{ℕ}
 use borrow.Author.Needs.{needs}
 use lib.ListN.{length, replicate}
-use Rattle.lent_meter.proofs.Telling.{tells-true, untold, blank-holds, row-holds}
+use Rattle.lent_meter.proofs.Telling.{tells-true, untold}
+use Rattle.lent_meter.proofs.Holding.{blank-holds, row-holds}
 use Rattle.lent_meter.proofs.held.holds_stream.Statement.{statement}
 use Rattle.lent_meter.proofs.held.holds_stream.Tie as tie
 

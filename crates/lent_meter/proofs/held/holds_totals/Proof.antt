@@ -1,7 +1,8 @@
 -- The volume, and its register.
 use native.Mathlib.Omega.{arith}
 use borrow.Author.Needs.{needs}
-use Rattle.lent_meter.proofs.Telling.{tells-false, totals-hold}
+use Rattle.lent_meter.proofs.Telling.{tells-false}
+use Rattle.lent_meter.proofs.Tests.{totals-hold}
 use Rattle.lent_meter.proofs.held.holds_totals.Statement.{statement}
 use Rattle.lent_meter.proofs.held.holds_totals.Tie as tie
 

@@ -1,6 +1,6 @@
 -- Either number above 255, or the test of two bytes.
 use borrow.Author.Needs.{needs}
-use Rattle.lent_meter.proofs.Telling.{large-combustion, large-metering}
+use Rattle.lent_meter.proofs.Tests.{large-combustion, large-metering}
 use Rattle.lent_meter.proofs.held.pair_holds.Statement.{statement}
 use Rattle.lent_meter.proofs.held.pair_holds.Tie as tie
 

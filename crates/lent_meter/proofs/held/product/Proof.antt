@@ -4,7 +4,7 @@ use Prim.Native.Nat.{_*_, _/_, _^_, _≤_}
 use native.Mathlib.Nat.{mul-le-mul, le-of-lt, div-le-self}
 use native.Mathlib.Omega.{arith}
 use borrow.Author.Needs.{needs}
-use Rattle.lent_meter.proofs.Telling.{before-below, product-is}
+use Rattle.lent_meter.proofs.Tests.{before-below, product-is}
 use Rattle.lent_meter.proofs.held.product.Statement.{statement}
 use Rattle.lent_meter.proofs.held.product.Tie as tie
 

@@ -1,0 +1,134 @@
+-- Rows that hold a stream, and words that hold a meter.
+use mathlib.Core.Path.{_≡_, refl, sym, ap, subst, _∙_}
+use mathlib.Core.Bool.{Bool, true, false, _&&_}
+use mathlib.Core.List.{List, [], _∷_, map}
+use Prim.Native.Nat.{ℕ, zero, suc, _+_, _<_}
+use native.Mathlib.Nat.{not-suc-le-zero, le-of-suc-le-suc}
+use native.Mathlib.Omega.{arith}
+use borrow.Author.Tests.{eqb-true, eqb-false}
+use lib.Dec.{eqb}
+use lib.ListN.{length, getD, drop, replicate, drop-of-length-le}
+use lib.Seq.{drop-cons}
+use Rattle.records.specs.Conditions.{permitted}
+use Rattle.records.proofs.OrderLaws.{both}
+use Rattle.properties.specs.Bounds.{Floored}
+use Rattle.properties.specs.Quantities.{Bounded}
+use Rattle.meter.specs.declared.InForce.{InForce}
+use Rattle.meter.specs.declared.InForce.the-variants.{Nothing, Known}
+use Rattle.meter.specs.declared.StreamTotals.{StreamTotals}
+use Rattle.meter.specs.declared.Stream.{Stream}
+use Rattle.meter.specs.State.{freshStream, SoundTotals, SoundAnalysis, SoundStream}
+use Rattle.meter.proofs.Kept.{fresh-stream-is-sound}
+use Rattle.lent_meter.specs.Words.{packedTotals, analysisWords, packedStream, sixIn, gasIn, totalsIn}
+use Rattle.lent_meter.specs.Lent.{LentRow, EachLent, Lent}
+use Rattle.lent_meter.proofs.Outcomes.{lent-row}
+use Rattle.lent_meter.specs.Check.{Tells, withinRanges}
+use Rattle.lent_meter.proofs.Tests.{properties-hold}
+
+-- the elements of a list from the place i on
+abbrev elements : ℕ → ℕ → List ℕ → List ℕ
+elements i zero l = []
+elements i (suc n) l = getD l i 0 ∷ elements (suc i) n l
+
+dropped : (i n : ℕ) (l : List ℕ) → length l ≡ i + n → drop i l ≡ elements i n l
+dropped i zero l e = drop-of-length-le l {i = i} (omega arith)
+dropped i (suc n) l e = drop-cons l i 0 (omega arith) ∙ ap (λ (r : List ℕ). getD l i 0 ∷ r) (dropped (suc i) n l (omega arith))
+
+-- with no analysis every word is 0, and with one the first word is 1
+blank : (a : InForce) (t : StreamTotals) → SoundAnalysis a t → (getD (analysisWords a (packedTotals t)) 0 0 ≡ 1 → ⊥) →
+    analysisWords a (packedTotals t) ≡ replicate 12 0
+blank Nothing t h none = ap (analysisWords Nothing) (ap packedTotals h)
+blank (Known gas) t h none = elim (none refl) [ ]
+
+-- the parts of a stream with an analysis
+record Parts (row : List ℕ) : Type 0 where
+  pub pair : permitted (getD row 1 0) (getD row 2 0) ≡ true
+  pub properties : Floored (sixIn row) × Bounded (sixIn row)
+  pub totals : SoundTotals (totalsIn row)
+
+parts : (a : InForce) (t : StreamTotals) → SoundAnalysis a t → SoundTotals t → getD (analysisWords a (packedTotals t)) 0 0 ≡ 1 → Parts (analysisWords a (packedTotals t))
+parts Nothing t h sound one = let f : ⊥ = omega arith in elim f [ ]
+parts (Known gas) t h sound one = record { pair = h .pair; properties = (h .floored, h .bounded); totals = sound }
+
+module _ (row : List ℕ) where
+  pub blank-holds : row ≡ replicate 12 0 → LentRow row
+  blank-holds e = record { stream = freshStream; sound = fresh-stream-is-sound; holds = e }
+
+  -- a row with 1 in its first word
+  analysed-holds : length row ≡ 12 → getD row 0 0 ≡ 1 → Parts row → LentRow row
+  analysed-holds long one p =
+      record {
+        stream = record { analysis = Known (gasIn row); totals = totalsIn row };
+        sound = record { analysis = record { pair = p .pair; floored = p .properties .0; bounded = p .properties .1 }; totals = p .totals };
+        holds = dropped 0 12 row long ∙ ap (λ (w : ℕ). w ∷ elements 1 11 row) one;
+      }
+
+  lent-parts : getD row 0 0 ≡ 1 → LentRow row → Parts row
+  lent-parts one l =
+      let s = l .stream in
+      subst Parts (sym (l .holds)) (parts (s .analysis) (s .totals) (l .sound .analysis) (l .sound .totals) (sym (ap (λ (r : List ℕ). getD r 0 0) (l .holds)) ∙ one))
+
+  lent-blank : (getD row 0 0 ≡ 1 → ⊥) → LentRow row → row ≡ replicate 12 0
+  lent-blank none l =
+      let s = l .stream in
+      l .holds ∙ blank (s .analysis) (s .totals) (l .sound .analysis) (λ one. none (ap (λ (r : List ℕ). getD r 0 0) (l .holds) ∙ one))
+
+  -- a row that is not 0 everywhere, from the tests of its parts
+  pub row-holds : length row ≡ 12 → (row ≡ replicate 12 0 → ⊥) → (pair ranges totals : Bool) → pair ≡ permitted (getD row 1 0) (getD row 2 0) →
+      ranges ≡ withinRanges (sixIn row) → Tells totals (SoundTotals (totalsIn row)) → Tells (eqb (getD row 0 0) 1 && pair && ranges && totals) (LentRow row)
+  row-holds long some pair ranges totals p c t =
+      record {
+        yes = λ y.
+            let z = both _ _ y in
+            let m = both _ _ (z .0) in
+            let f = both _ _ (m .0) in
+            analysed-holds long (eqb-true _ _ (f .0))
+            (record { pair = sym p ∙ f .1; properties = properties-hold (sixIn row) .yes (sym c ∙ m .1); totals = t .yes (z .1) });
+        no = λ l. go l (eqb (getD row 0 0) 1) refl;
+      }
+    where
+      go : LentRow row → (b : Bool) → eqb (getD row 0 0) 1 ≡ b → (eqb (getD row 0 0) 1 && pair && ranges && totals) ≡ true
+      go l true e =
+          let q = lent-parts (eqb-true _ _ e) l in
+          rw (e, p ∙ q .pair, c ∙ properties-hold (sixIn row) .no (q .properties), t .no (q .totals))
+      go l false e = elim (some (lent-blank (eqb-false _ _ e) l)) [ ]
+
+-- rows that hold a stream each hold a meter together
+first-of : (row : List ℕ) (rows : List (List ℕ)) → EachLent (row ∷ rows) → LentRow row
+first-of row rows h = h 0 (omega arith)
+
+others-of : (row : List ℕ) (rows : List (List ℕ)) → EachLent (row ∷ rows) → EachLent rows
+others-of row rows h k l = h (suc k) (omega arith)
+
+streams : (rows : List (List ℕ)) → EachLent rows → List Stream
+streams [] h = []
+streams (row ∷ rows) h = first-of row rows h .stream ∷ streams rows (others-of row rows h)
+
+all-hold : (rows : List (List ℕ)) (h : EachLent rows) → rows ≡ map packedStream (streams rows h)
+unfolding streams
+all-hold [] h = refl
+all-hold (row ∷ rows) h = λ i. first-of row rows h .holds i ∷ all-hold rows (others-of row rows h) i
+
+as-many : (rows : List (List ℕ)) (h : EachLent rows) → length (streams rows h) ≡ length rows
+unfolding streams
+as-many [] h = refl
+as-many (row ∷ rows) h = ap suc (as-many rows (others-of row rows h))
+
+each-sound : (rows : List (List ℕ)) (h : EachLent rows) (k : ℕ) → k < length rows → SoundStream (getD (streams rows h) k freshStream)
+unfolding streams
+each-sound [] h k l = absurd (not-suc-le-zero l)
+each-sound (row ∷ rows) h zero l = first-of row rows h .sound
+each-sound (row ∷ rows) h (suc k) l = each-sound rows (others-of row rows h) k (le-of-suc-le-suc l)
+
+pub words-hold : (words : List (List ℕ)) {b : Bool} → length words ≡ 16 → Tells b (EachLent words) → Tells b (Lent words)
+words-hold words count t =
+    record {
+      yes = λ y.
+          let h = t .yes y in
+          record {
+            meter = record { streams = streams words h };
+            sound = record { count = as-many words h ∙ count; each = λ k low. each-sound words h k (omega arith) };
+            holds = all-hold words h;
+          };
+      no = λ l. t .no (λ k low. lent-row k l (omega arith));
+    }
