@@ -8,8 +8,9 @@
 
 enum { CHECKSUM = KEEP_COPY_WORDS - 1 };
 
-/* In place of a checksum: the copy is being stored. A checksum is below 2^32, so this is none, whatever the other words are. */
-#define UNFINISHED UINT64_MAX
+/* In place of a checksum: the copy is being stored. A checksum is below 2^32, so this is none, whatever the other words are; nor is it what
+ * memory reads that was erased or cleared. */
+#define UNFINISHED UINT64_C(0x756e66696e697368)
 
 union copy {
     uint64_t words[KEEP_COPY_WORDS];

@@ -99,6 +99,8 @@ static int above(const char *name, void (*function)(void), size_t most)
 {
     size_t taken = taken_by(function) - taken_by(nothing);
     printf("%s: %zu bytes, at most %zu\n", name, taken, most);
+    if (number != LOONSTOOL_ACCEPTED)
+        fprintf(stderr, "stack: %s gave %d\n", name, number);
     return taken > most || number != LOONSTOOL_ACCEPTED;
 }
 

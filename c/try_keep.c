@@ -3,7 +3,8 @@
  * For each call of some lists, and for each of its stores, the power fails at that store: none of its bits is stored, or some are, and
  * nothing after it. After the restart the meter has to be the one before the call or the one after it, word for word, as the library makes
  * it on a plain meter; so too where the power fails a second time, at each store of the call made again, and in a long list of calls most
- * of which are cut. Then each bit of a copy is flipped: that has to be found, and the other copy taken; with both damaged there is none. */
+ * of which are cut. Then each bit of a copy is flipped, and a whole copy erased: that has to be found, and the other copy
+ * taken; with both damaged there is none. */
 #include <setjmp.h>
 #include <stdio.h>
 #include <stdlib.h>
@@ -268,6 +269,22 @@ static void try_flips(const struct loonstool_meter *newer, const struct loonstoo
     }
 }
 
+/* A whole copy is erased, or cleared. */
+static void try_erased(const struct loonstool_meter *newer, const struct loonstool_meter *older)
+{
+    uint64_t image[KEEP_WORDS];
+    struct keep keep;
+    struct loonstool_meter found;
+    expect(keep_open(&keep) == KEEP_WHOLE, "nothing is damaged", 0);
+    memcpy(image, kept, sizeof image);
+    for (size_t i = 0; i < 4; i++) {
+        size_t which = i / 2;
+        memset(kept + which * KEEP_COPY_WORDS, i % 2 ? 0 : 0xff, sizeof kept / KEEP_COPIES);
+        expect(restart(&found) == KEEP_DAMAGED && same(&found, which == keep.newer ? older : newer), "a copy erased or cleared", i);
+        memcpy(kept, image, sizeof image);
+    }
+}
+
 /* Two or three bits of the newer copy flip, chosen at random. */
 static void try_several_flips(const struct loonstool_meter *older)
 {
@@ -385,6 +402,7 @@ int main(void)
             try_call(&call, &newer, &older);
         }
         try_flips(&newer, &older);
+        try_erased(&newer, &older);
         try_several_flips(&older);
         try_wrong_copies(&newer, &older);
         try_going_on(&newer, &older);

@@ -168,11 +168,11 @@ static void expect_k1(const uint8_t *bytes, const char *what, size_t at)
 /* The writer gives a number for a buffer of `length` bytes, and every byte that it does not fill is as it was. */
 static void expect_written(uint8_t *buffer, size_t length, uint8_t number, const uint8_t *k1_bytes, const char *what)
 {
-    size_t filled = number == LOONSTOOL_ACCEPTED ? K1_BYTES : 0;
+    size_t written = number == LOONSTOOL_ACCEPTED ? K1_BYTES : 0;
     memset(buffer, 0x5a, length);
     expect(write_k1(buffer, length) == number, what, length);
-    expect(memcmp(buffer, k1_bytes, filled) == 0, what, length);
-    expect(all_are(buffer + filled, length - filled, 0x5a), what, length);
+    expect(memcmp(buffer, k1_bytes, written) == 0, what, length);
+    expect(all_are(buffer + written, length - written, 0x5a), what, length);
 }
 
 static void try_null_lengths(void)
@@ -390,8 +390,25 @@ static void try_full_stream(void)
     expect_readings(0, full, 37781616);
 }
 
-/* Whether the words of a stream can be those of a meter: each lies between its lowest and its highest, the energy between volume x the
- * floor and volume x the ceiling of Hs; without an analysis all are 0. */
+/* The greatest whole number whose square is at most n. */
+static uint64_t root_of(uint64_t n)
+{
+    uint64_t root = 0;
+    for (uint64_t bit = (uint64_t)1 << 31; bit > 0; bit /= 2)
+        if ((root + bit) * (root + bit) <= n)
+            root += bit;
+    return root;
+}
+
+/* The Wobbe index of Hs and d, halves upward. */
+static uint64_t index_of(uint64_t hs, uint64_t d)
+{
+    uint64_t root = root_of(d * 10000000000);
+    return (hs * 1000000000 + root / 2) / root;
+}
+
+/* Whether the words of a stream can be those of a meter: each lies between its lowest and its highest, W is the index of Hs and d, and the
+ * energy lies between volume x the floor and volume x the ceiling of Hs; without an analysis all are 0. */
 static bool can_be(const uint64_t *words)
 {
     wide energy = (wide)words[ENERGY_MJ] * 1000000000 + words[ENERGY_REST];
@@ -403,7 +420,8 @@ static bool can_be(const uint64_t *words)
             return false;
     for (size_t i = 0; i < 6; i++)
         permitted |= words[COMBUSTION] == pairs[i][0] && words[METERING] == pairs[i][1];
-    return permitted && energy >= (wide)words[VOLUME] * lowest[HS] && energy <= (wide)words[VOLUME] * highest[HS];
+    return permitted && words[W] == index_of(words[HS], words[D]) && energy >= (wide)words[VOLUME] * lowest[HS] &&
+           energy <= (wide)words[VOLUME] * highest[HS];
 }
 
 /* loonstool_meter_check gives what it should on the words as they are, and does not write to them. */

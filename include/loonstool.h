@@ -5,12 +5,12 @@
  * the caller's memory is as it was. Two refuse nothing: loonstool_meter_fresh, and loonstool_meter_check, which gives true or false. No
  * call looks at more than 283 bytes of a record, so its time is bounded.
  *
- * A record, numbers least significant byte first: bytes 0 to 2 the mark "GCR", 3 and 4 the version, 1, 5 the combustion temperature and
- * 6 the metering temperature in degrees Celsius, 7 the number of entries n, 1 to 55; then n entries of 5 bytes, the line number (1 byte)
- * and the mole fraction in ppm (4 bytes), line numbers ascending, no fraction 0. The pairs that are permitted, combustion/metering: 15/15,
- * 0/0, 15/0, 25/0, 20/20, 25/20. The fractions add up to 999,900 to 1,000,100; methane is at least 500,000, nitrogen at most 300,000, ethane
- * and carbon dioxide 150,000 each, water 200, every other line but methane 50,000. The lines are those of table 1 of the standard (1 methane,
- * 2 ethane, 42 water, 52 nitrogen, 54 carbon dioxide; all are named in crates/components/specs/Table.antt).
+ * A record, numbers least significant byte first: bytes 0 to 2 the mark "GCR", 3 and 4 the version, 1, 5 the combustion temperature and 6
+ * the metering temperature in degrees Celsius, 7 the number of entries n, 1 to 55; then n entries of 5 bytes, the line number (1 byte) and
+ * the mole fraction in ppm (4 bytes), line numbers ascending, no fraction 0. The pairs that are permitted, combustion/metering: 15/15,
+ * 0/0, 15/0, 25/0, 20/20, 25/20. The fractions add up to 999,900 to 1,000,100; methane is at least 500,000, nitrogen at most 300,000,
+ * ethane and carbon dioxide 150,000 each, water 200, every other line but methane 50,000. The lines are those of table 1 of the standard
+ * (1 methane, 2 ethane, 42 water, 52 nitrogen, 54 carbon dioxide; all are named in crates/components/specs/Table.antt).
  *
  * What a caller has to see to, for every function:
  *   - a pointer to const points to as many elements as its length says, which nothing writes during the call. Where the length is 0,
@@ -28,17 +28,17 @@
  *     loonstool_meter_totals stay within the memory that is lent, and promise no more;
  *   - one call at a time on a meter, but for those that only read it. Several meters may run at once.
  *
- * Words that were restored go through loonstool_meter_check. It refuses a property above its ceiling or below what any accepted record
- * has, a pair that is not permitted, a stream without an analysis that is not 0 everywhere, a volume total above 999,999,999,999 dm3, a rest
- * of 10^9 mJ or more, and an energy that its volume cannot have. It cannot find a damage that leaves a possible meter, as a flipped bit of a
- * volume total may: that takes a checksum.
+ * Words that were restored go through loonstool_meter_check. It refuses a property above its ceiling or below its floor, which no accepted
+ * record's is, a Wobbe index that is not that of Hs and d, a pair that is not permitted, a stream without an analysis that is not 0
+ * everywhere, a volume total above 999,999,999,999 dm3, a rest of 10^9 mJ or more, and an energy that its volume cannot have. It cannot
+ * find a damage that leaves a possible meter, as a flipped bit of a volume total may: that takes a checksum.
  *
  * Power cuts: a call is several stores, in no order that is promised. A cut between them leaves neither the meter before the call nor the
- * one after it, but, for instance, a volume without its energy, which loonstool_meter_check need not find. So firmware keeps the meter twice
- * in memory that outlasts a cut, each copy with a counter, which says which is newer, and a checksum. It takes the newer copy, makes the
- * call, and stores the outcome over the older copy, which is marked as unfinished before its first word changes and gets its checksum after
- * the last. At every moment one copy is whole, and after a restart the newest whole one is the meter before the call or the one after it.
- * c/keep.c does so, and c/try_keep.c cuts its power before every store.
+ * one after it, but, for instance, a volume without its energy, which loonstool_meter_check need not find. So firmware keeps the meter
+ * twice in memory that outlasts a cut, each copy with a counter, which says which is newer, and a checksum. It takes the newer copy, makes
+ * the call, and stores the outcome over the older copy, which is marked as unfinished before its first word changes and gets its checksum
+ * after the last. At every moment one copy is whole, and after a restart the newest whole one is the meter before the call or the one
+ * after it. c/keep.c does so, and c/try_keep.c cuts its power before every store.
  *
  * The archive is for x86-64 alone: ELF, System V calling convention, SSE2 registers, 128 bytes below the stack pointer in use. Without an
  * operating system SSE has to be switched on, and an interrupt handler leaves those 128 bytes and the xmm registers as they were. It needs
@@ -97,7 +97,7 @@ enum loonstool_number {
 #define LOONSTOOL_LINES 55
 #define LOONSTOOL_RECORD_BYTES(n) (8 + 5 * (n))
 
-/* Bytes of stack that a call takes at most, the 128 below the stack pointer included, and beside those two functions' own. */
+/* Bytes of stack that a call takes at most, the 128 below the stack pointer included, and beside what memcpy and memset take. */
 #define LOONSTOOL_STACK_METER_FRESH 200
 #define LOONSTOOL_STACK_METER_CHECK 200
 #define LOONSTOOL_STACK_METER_ANALYSIS 400

@@ -188,7 +188,7 @@ fn some_words_damaged() {
         }
         counts.restore(&words, stream);
     }
-    counts.print("some words of a stream damaged", 5_000);
+    counts.print("some words of a stream damaged", 1_000);
 }
 
 /// The metered meter, as the plain version has it.

@@ -28,11 +28,11 @@ module _ {A B : Type 0} (f : A → B) (answer : A) (before : B) {n number : ℕ}
   returned e =
       rw (mapped-decided f n answer) (record { number-is = is ∙ number-is (f answer) n; after-is = e })
 
-  pub refusal : (number ≡ 0 → ⊥) → after ≡ before → Returns (mapped f (decided n answer)) before number after
-  refusal h e = returned (e ∙ beside n (f answer) before (λ z. h (is ∙ z)))
+  pub number-refuses : (number ≡ 0 → ⊥) → after ≡ before → Returns (mapped f (decided n answer)) before number after
+  number-refuses h e = returned (e ∙ beside n (f answer) before (λ z. h (is ∙ z)))
 
-  pub acceptance : number ≡ 0 → after ≡ f answer → Returns (mapped f (decided n answer)) before number after
-  acceptance z e = returned (e ∙ ap (λ (i : ℕ). otherwise before (decided i (f answer))) (sym z ∙ is))
+  pub number-accepts : number ≡ 0 → after ≡ f answer → Returns (mapped f (decided n answer)) before number after
+  number-accepts z e = returned (e ∙ ap (λ (i : ℕ). otherwise before (decided i (f answer))) (sym z ∙ is))
 
 -- the row of a stream, and the words with another row
 row-at : (l : List Stream) (k : ℕ) → k < length l → getD (map packedStream l) k [] ≡ packedStream (getD l k freshStream)

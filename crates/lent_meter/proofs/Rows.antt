@@ -20,10 +20,9 @@ use Rattle.meter.specs.declared.InForce.the-variants.{Nothing, Known}
 use Rattle.meter.specs.declared.StreamTotals.{StreamTotals}
 use Rattle.meter.specs.declared.Stream.{Stream}
 use Rattle.meter.specs.State.{mostVolume, mostTotal, SoundAnalysis, SoundStream}
-use Rattle.meter.specs.Conditions.{pairDiffers, noAnalysis, pairOrder}
+use Rattle.meter.specs.Conditions.{pairDiffers, noAnalysis, pairOrder, streamAnalysisOrder, streamMeteringOrder}
 use Rattle.meter.specs.Calls.{withVolume, added, analysed, metered}
 use Rattle.lent_meter.specs.Words.{packedTotals, gasWords, analysisWords, packedStream, sixIn, totalsIn, withGasWords, withTotalsWords}
-use Rattle.lent_meter.specs.Lent.{rowMeteringOrder, rowAnalysisOrder}
 
 -- 14, from the words of a row
 abbrev pub wordsDiffer : List ℕ → ℕ → ℕ → Bool
@@ -41,7 +40,7 @@ module _ (t : StreamTotals) where
 
   six-words : (a : InForce) → SoundAnalysis a t → Bounded (sixIn (analysisWords a (packedTotals t)))
   six-words Nothing h = omega arith
-  six-words (Known gas) h = h .bounded
+  six-words (Known gas) h = h .properties .bounded
 
   totals-words : (a : InForce) → totalsIn (analysisWords a (packedTotals t)) ≡ t
   totals-words Nothing = refl
@@ -75,18 +74,18 @@ module _ {row : List ℕ} (s : Stream) (holds : row ≡ packedStream s) where
 
 -- the number of a metering, 13 apart, from the tests of the code, each where those before it did not hold
 module _ (s : Stream) (v : ℕ) where
-  pub fifteen : mostVolume < v → 15 ≡ firstOf (rowMeteringOrder s v)
+  pub fifteen : mostVolume < v → 15 ≡ firstOf (streamMeteringOrder v s)
   fifteen h = rw (lt-ltb mostVolume v h)
 
   module _ (small : v ≤ mostVolume) where
-    pub sixteen : noAnalysis (s .analysis) ≡ true → 16 ≡ firstOf (rowMeteringOrder s v)
+    pub sixteen : noAnalysis (s .analysis) ≡ true → 16 ≡ firstOf (streamMeteringOrder v s)
     sixteen none = rw (le-ltb mostVolume v small, none)
 
     module _ (some : noAnalysis (s .analysis) ≡ false) where
-      pub seventeen : mostTotal < s .totals .volume + v → 17 ≡ firstOf (rowMeteringOrder s v)
+      pub seventeen : mostTotal < s .totals .volume + v → 17 ≡ firstOf (streamMeteringOrder v s)
       seventeen h = rw (le-ltb mostVolume v small, some, lt-ltb mostTotal (s .totals .volume + v) h)
 
-      pub clear : s .totals .volume + v ≤ mostTotal → 0 ≡ firstOf (rowMeteringOrder s v)
+      pub clear : s .totals .volume + v ≤ mostTotal → 0 ≡ firstOf (streamMeteringOrder v s)
       clear h = rw (le-ltb mostVolume v small, some, le-ltb mostTotal (s .totals .volume + v) h)
 
 -- the number of an analysis, 13 apart, and the row with the record's gas, from what the code finds of the record
@@ -94,11 +93,11 @@ module _ {row : List ℕ} (s : Stream) (holds : row ≡ packedStream s) (bs : Li
   abbrev fourteen : Order
   fourteen = pairOrder (pairDiffers (s .analysis) (combustionIn bs) (meteringIn bs))
 
-  pub record-refused : {n : ℕ} → n ≡ firstOf (recordOrder bs) → (n ≡ 0 → ⊥) → n ≡ firstOf (rowAnalysisOrder s bs)
+  pub record-refused : {n : ℕ} → n ≡ firstOf (recordOrder bs) → (n ≡ 0 → ⊥) → n ≡ firstOf (streamAnalysisOrder bs s)
   record-refused = stops (recordOrder bs) fourteen
 
   module _ {c m : ℕ} (first : c ≡ combustionIn bs) (second : m ≡ meteringIn bs) where
-    pub record-accepted : firstOf (recordOrder bs) ≡ 0 → {b : Bool} → wordsDiffer row c m ≡ b → firstOf (pairOrder b) ≡ firstOf (rowAnalysisOrder s bs)
+    pub record-accepted : firstOf (recordOrder bs) ≡ 0 → {b : Bool} → wordsDiffer row c m ≡ b → firstOf (pairOrder b) ≡ firstOf (streamAnalysisOrder bs s)
     record-accepted clear h =
         let differs : wordsDiffer row c m ≡ pairDiffers (s .analysis) (combustionIn bs) (meteringIn bs) =
         (λ i. wordsDiffer (holds i) (first i) (second i)) ∙ pair-words (s .totals) (s .analysis) (combustionIn bs) (meteringIn bs) in

@@ -9,13 +9,13 @@ use Rattle.lent_meter.specs.Check.{Tells}
 
 -- what is told by true, and by false
 pub tells-true : {P : Type 0} → P → Tells true P
-tells-true p = record { yes = λ e. p; no = λ q. refl }
+tells-true p = record { only = λ e. p; always = λ q. refl }
 
 pub tells-false : {P : Type 0} → (P → ⊥) → Tells false P
-tells-false h = record { yes = λ e. elim (true≢false (sym e)) [ ]; no = λ q. elim (h q) [ ] }
+tells-false h = record { only = λ e. elim (true≢false (sym e)) [ ]; always = λ q. elim (h q) [ ] }
 
 pub untold : {P : Type 0} {b : Bool} → Tells b P → b ≡ false → P → ⊥
-untold t e p = true≢false (sym (t .no p) ∙ e)
+untold t e p = true≢false (sym (t .always p) ∙ e)
 
 -- from each below i, and the one at i
 pub one-more : {P : ℕ → Type 0} (i : ℕ) → ((j : ℕ) → j < i → P j) → P i → (j : ℕ) → j < i + 1 → P j

@@ -4,12 +4,12 @@ use mathlib.Core.Bool.{Bool, true, false, _&&_, _||_}
 use Prim.Native.Nat.{ℕ, _+_, _*_, _/_, _%_, _≤_, _<_}
 use native.Mathlib.Nat.{mul-le-mul-right, div-add-mod', mod-lt}
 use native.Mathlib.Omega.{arith}
-use borrow.Author.Tests.{eqb-true, eqb-false, ne-eqb, ltb-true, ltb-false, leb-true, leb-false, le-leb}
+use borrow.Author.Tests.{eqb-true, eqb-false, eq-eqb, ne-eqb, ltb-true, ltb-false, leb-true, leb-false, le-leb}
 use lib.Dec.{eqb, leb, ltb}
 use Rattle.records.specs.Conditions.{permitted}
 use Rattle.records.proofs.OrderLaws.{both}
-use Rattle.properties.specs.Chain.{Six}
-use Rattle.properties.specs.Bounds.{calorificLow, Floored}
+use Rattle.properties.specs.Chain.{Six, wobbe, rootOf}
+use Rattle.properties.specs.Bounds.{calorificLow, Floored, Proper}
 use Rattle.properties.specs.Quantities.{calorificBound, Bounded}
 use Rattle.meter.specs.declared.Register.{Register}
 use Rattle.meter.specs.declared.StreamTotals.{StreamTotals}
@@ -38,10 +38,10 @@ between-yes a x b e = let z = both _ _ e in (leb-true a x (z .0), leb-true x b (
 between-no : (a x b : ℕ) → a ≤ x → x ≤ b → between a x b ≡ true
 between-no a x b low high = rw (le-leb a x low, le-leb x b high)
 
-pub properties-hold : (p : Six) → Tells (withinRanges p) (Floored p × Bounded p)
-properties-hold p =
+pub ranges-hold : (p : Six) → Tells (withinRanges p) (Floored p × Bounded p)
+ranges-hold p =
     record {
-      yes = λ y.
+      only = λ y.
           let w = both _ _ y in
           let d = both _ _ (w .0) in
           let r = both _ _ (d .0) in
@@ -56,11 +56,17 @@ properties-hold p =
             record { Z = Z .0; Hs = Hs .0; Hi = Hi .0; rho = rho .0; d = dd .0; W = W .0 },
             record { Z = Z .1; Hs = Hs .1; Hi = Hi .1; rho = rho .1; d = dd .1; W = W .1 },
           );
-      no = λ h.
+      always = λ h.
           let f = h .0 in
           let b = h .1 in
           rw (between-no _ _ _ (f .Z) (b .Z), between-no _ _ _ (f .Hs) (b .Hs), between-no _ _ _ (f .Hi) (b .Hi), between-no _ _ _ (f .rho) (b .rho), between-no _ _ _ (f .d) (b .d), between-no _ _ _ (f .W) (b .W));
     }
+
+-- within their ranges, from the test of the index
+pub properties-hold : (p : Six) → withinRanges p ≡ true → Tells (eqb (p .W) (wobbe (p .Hs) (rootOf (p .d)))) (Proper p)
+properties-hold p within =
+    let r = ranges-hold p .only within in
+    record { only = λ e. record { floored = r .0; bounded = r .1; index = eqb-true _ _ e }; always = λ q. eq-eqb _ _ (q .index) }
 
 -- volume × value by the two digits of the volume: `high` is the first one times the value, and `share` the unit without the base
 module _ (u v x : ℕ) (unit : RegisterUnit u) where
@@ -134,12 +140,12 @@ register-holds u floor ceiling v e least most some low high = go (ltb (e .rest) 
         let below = amount-at-most u least e (bound-rest u v floor some least low) rest in
         let above = amount-at-most u e most rest (bound-rest u v ceiling some most high) in
         record {
-          yes = λ y. let z = both _ _ y in record { rest = rest; least = omega (arith, below .yes (z .0), l); most = omega (arith, above .yes (z .1), m) };
-          no = λ s. rw (below .no (omega (arith, s .least, l)), above .no (omega (arith, s .most, m)));
+          only = λ y. let z = both _ _ y in record { rest = rest; least = omega (arith, below .only (z .0), l); most = omega (arith, above .only (z .1), m) };
+          always = λ s. rw (below .always (omega (arith, s .least, l)), above .always (omega (arith, s .most, m)));
         }
     go false h = tells-false (λ s. omega (arith, ltb-false (e .rest) u h, s .rest))
 
 -- totals, from the test of each register
 pub totals-hold : (t : StreamTotals) {b : Bool} → t .volume ≤ mostTotal → Tells b (SoundRegister perMJ calorificLow calorificBound (t .volume) (t .superior)) →
     Tells b (SoundTotals t)
-totals-hold t low h = record { yes = λ y. record { volume = low; superior = h .yes y }; no = λ s. h .no (s .superior) }
+totals-hold t low h = record { only = λ y. record { volume = low; superior = h .only y }; always = λ s. h .always (s .superior) }

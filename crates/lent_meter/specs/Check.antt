@@ -10,8 +10,8 @@ use Rattle.meter.specs.declared.Register.{Register}
 
 -- true exactly where something holds
 pub record Tells (answer : Bool) (Something : Type 0) : Type 0 where
-  pub yes : answer ≡ true → Something
-  pub no : Something → answer ≡ true
+  pub only : answer ≡ true → Something
+  pub always : Something → answer ≡ true
 
 -- a value lies between two others, both included
 abbrev pub between : ℕ → ℕ → ℕ → Bool

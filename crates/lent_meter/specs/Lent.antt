@@ -1,16 +1,14 @@
 -- Words that hold a meter, and what a call on them gives.
 use mathlib.Core.Path.{_≡_}
-use mathlib.Core.List.{List, [], _++_}
+use mathlib.Core.List.{List, []}
 use Prim.Native.Nat.{ℕ, _<_}
 use lib.ListN.{length, getD}
-use Rattle.records.specs.Order.{Order, Outcome, mapped, firstOf, decided}
-use Rattle.records.specs.Format.{combustionIn, meteringIn}
-use Rattle.records.specs.Conditions.{recordOrder}
+use Rattle.records.specs.Order.{Outcome, mapped, firstOf, decided}
 use Rattle.records.specs.Answers.{Returns}
 use Rattle.meter.specs.declared.Stream.{Stream}
 use Rattle.meter.specs.declared.Meter.{Meter}
 use Rattle.meter.specs.State.{SoundStream, Sound}
-use Rattle.meter.specs.Conditions.{pairDiffers, volumeAbove, noAnalysis, totalPasses, pairOrder, volumeOrder}
+use Rattle.meter.specs.Conditions.{streamAnalysisOrder, streamMeteringOrder}
 use Rattle.meter.specs.Calls.{analysed, metered}
 use Rattle.lent_meter.specs.Words.{packedStream, packed}
 
@@ -33,21 +31,15 @@ abbrev pub OnWords : (Meter → Outcome Meter) → List (List ℕ) → ℕ → L
 OnWords call before number after = (m : Meter) → Sound m → before ≡ packed m → Returns (mapped packed (call m)) before number after
 
 -- a reading: the number, and the memory that is lent for the answer
-abbrev pub Reads : {A B : Type 0} → (A → B) → (Meter → Outcome A) → List (List ℕ) → B → ℕ → B → Type 0
-Reads shown call words before number after = (m : Meter) → Sound m → words ≡ packed m → Returns (mapped shown (call m)) before number after
+abbrev pub OnReading : {A B : Type 0} → (A → B) → (Meter → Outcome A) → List (List ℕ) → B → ℕ → B → Type 0
+OnReading shown call words before number after = (m : Meter) → Sound m → words ≡ packed m → Returns (mapped shown (call m)) before number after
 
 -- the same on a row: the calls on a stream, where 13 does not hold
 abbrev pub OnRow : (Stream → Outcome Stream) → List ℕ → ℕ → List ℕ → Type 0
 OnRow call before number after = (s : Stream) → SoundStream s → before ≡ packedStream s → Returns (mapped packedStream (call s)) before number after
 
-abbrev pub rowMeteringOrder : Stream → ℕ → Order
-rowMeteringOrder s v = volumeOrder (volumeAbove v) (noAnalysis (s .analysis)) (totalPasses (s .totals .volume) v)
+abbrev pub rowAnalysis : Stream → List ℕ → Outcome Stream
+rowAnalysis s bs = decided (firstOf (streamAnalysisOrder bs s)) (analysed s bs)
 
 abbrev pub rowMetering : Stream → ℕ → Outcome Stream
-rowMetering s v = decided (firstOf (rowMeteringOrder s v)) (metered s v)
-
-abbrev pub rowAnalysisOrder : Stream → List ℕ → Order
-rowAnalysisOrder s bs = recordOrder bs ++ pairOrder (pairDiffers (s .analysis) (combustionIn bs) (meteringIn bs))
-
-abbrev pub rowAnalysis : Stream → List ℕ → Outcome Stream
-rowAnalysis s bs = decided (firstOf (rowAnalysisOrder s bs)) (analysed s bs)
+rowMetering s v = decided (firstOf (streamMeteringOrder v s)) (metered s v)

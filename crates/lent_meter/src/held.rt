@@ -7,10 +7,12 @@ use properties::quantities::CompressionFactor;
 use properties::quantities::Density;
 use properties::quantities::RelativeDensity;
 use properties::quantities::WobbeIndex;
+use properties::steps;
 ghost use mathlib.Core.Path.{_≡_};
 ghost use Prim.Native.Nat.{_*_, _^_, _≤_, _<_};
 ghost use lib.ListN.{length, replicate};
 ghost use Rattle.records.specs.Conditions.{permitted};
+ghost use Rattle.properties.specs.Bounds.{Proper};
 ghost use Rattle.meter.specs.State.{mostTotal, nothingBooked, SoundRegister, SoundTotals};
 ghost use Rattle.meter.specs.Calls.{booked};
 ghost use Rattle.lent_meter.specs.Words.{totalsIn, sixIn};
@@ -53,7 +55,7 @@ fn between(floor: u64, value: u64, ceiling: u64) -> bool
 }
 
 // Whether each property in a row lies between its floor and its ceiling.
-fn holds_properties(row: &Row) -> bool
+fn within_ranges(row: &Row) -> bool
     ensures { λ r. ⌜ r ≡ withinRanges (sixIn (now (row .entry))) ⌝ }
 {
     between(
@@ -70,6 +72,16 @@ fn holds_properties(row: &Row) -> bool
             RelativeDensity::BOUND,
         )
         & between(WobbeIndex::FLOOR, row[words::W], WobbeIndex::BOUND)
+}
+
+// Whether the properties in a row are those of a gas.
+fn holds_properties(row: &Row) -> bool
+    ensures { λ r. ⌜ Tells r (Proper (sixIn (now (row .entry)))) ⌝ }
+{
+    if !within_ranges(row) {
+        return false;
+    }
+    row[words::W] == steps::index(row[words::HS], row[words::D])
 }
 
 // Volume × value as a register, `unit` of whose rest make one whole.

@@ -13,11 +13,11 @@ ghost use Rattle.meter.specs.declared.Stream.{Stream};
 ghost use Rattle.meter.specs.State.{freshMeter};
 ghost use Rattle.meter.specs.Calls.{analysisOf, meteringOf, totalsOf, meanOf};
 ghost use Rattle.lent_meter.specs.Words.{packed, packedTotals};
-ghost use Rattle.lent_meter.specs.Lent.{Lent, LentRow, OnWords, Reads, OnRow, rowAnalysis, rowMetering};
+ghost use Rattle.lent_meter.specs.Lent.{Lent, LentRow, OnWords, OnReading, OnRow, rowAnalysis, rowMetering};
 ghost use Rattle.lent_meter.specs.Check.{Tells};
 
 // Streams of a meter.
-pub const STREAMS: usize = 16;
+const STREAMS: usize = 16;
 
 pub type Words = [Row; STREAMS];
 
@@ -35,6 +35,7 @@ pub fn check(words: &Words) -> bool
     held::each_holds(words)
 }
 
+// A byte as a word.
 fn wide(byte: u8) -> u64
     ensures { λ r. ⌜ r ≡ byte ⌝ }
 {
@@ -103,7 +104,7 @@ pub fn metering(words: &mut Words, stream: usize, volume: u64) -> u8
 
 // The volume and the energy of a stream.
 pub fn totals(words: &Words, stream: usize, out: &mut [u64; 3]) -> u8
-    ensures { λ r. ⌜ Reads packedTotals (λ (m : Meter). totalsOf m stream) (now (words .entry)) (now (out .entry)) r (now (out .exit)) ⌝ }
+    ensures { λ r. ⌜ OnReading packedTotals (λ (m : Meter). totalsOf m stream) (now (words .entry)) (now (out .entry)) r (now (out .exit)) ⌝ }
 {
     if meter::LAST_STREAM < stream {
         return 13;
@@ -116,7 +117,7 @@ pub fn totals(words: &Words, stream: usize, out: &mut [u64; 3]) -> u8
 // The mean calorific value of what a stream has taken, in J/m³.
 pub fn mean(words: &Words, stream: usize, out: &mut u64) -> u8
     requires { ⌜ Lent (now words) ⌝ }
-    ensures { λ r. ⌜ Reads (λ (h : ℕ). h) (λ (m : Meter). meanOf m stream) (now (words .entry)) (now (out .entry)) r (now (out .exit)) ⌝ }
+    ensures { λ r. ⌜ OnReading (λ (h : ℕ). h) (λ (m : Meter). meanOf m stream) (now (words .entry)) (now (out .entry)) r (now (out .exit)) ⌝ }
 {
     if meter::LAST_STREAM < stream {
         return 13;

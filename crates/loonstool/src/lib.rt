@@ -1,25 +1,25 @@
 // The library for firmware in C and Rust: the meter in words that the caller lends, the properties of a record, and records read and
-// written. include/loonstool.h declares its functions for C, rust/ wraps them for Rust. Each call gives 0 where it is accepted, or document
-// 01's number; a refusal leaves what the caller lent as it was.
+// written. include/loonstool.h declares its functions for C, rust/ wraps them for Rust. Each call that may be refused gives 0, or
+// document 01's number; a refusal leaves what the caller lent as it was.
+use lent_meter::Words;
+use properties::Answer;
+use properties::Properties;
+use records::Verdict;
 ghost use mathlib.Core.Path.{_≡_};
+ghost use Prim.Native.Nat.{ℕ};
 ghost use Rattle.records.specs.Order.{mapped};
 ghost use Rattle.records.specs.Format.{contents};
 ghost use Rattle.records.specs.Calls.{readingOf, writingOf};
 ghost use Rattle.records.specs.Answers.{held, Returns};
 ghost use Rattle.properties.specs.Chain.{propertiesOf};
 ghost use Rattle.properties.specs.Answers.{numbers, meaning};
-ghost use Prim.Native.Nat.{ℕ};
 ghost use Rattle.meter.specs.declared.Meter.{Meter};
 ghost use Rattle.meter.specs.State.{freshMeter};
 ghost use Rattle.meter.specs.Calls.{analysisOf, meteringOf, totalsOf, meanOf};
 ghost use Rattle.lent_meter.specs.Words.{packed, packedTotals};
-ghost use Rattle.lent_meter.specs.Lent.{Lent, OnWords, Reads};
+ghost use Rattle.lent_meter.specs.Lent.{Lent, OnWords, OnReading};
 ghost use Rattle.lent_meter.specs.Check.{Tells};
 ghost use Rattle.loonstool.specs.Exports.{inOrder, analysis};
-use lent_meter::Words;
-use properties::Answer;
-use properties::Properties;
-use records::Verdict;
 
 // A meter as made.
 #[no_mangle]
@@ -57,7 +57,7 @@ pub extern "C" fn loonstool_meter_metering(meter: &mut Words, stream: usize, vol
 // The volume and the energy of a stream.
 #[no_mangle]
 pub extern "C" fn loonstool_meter_totals(meter: &Words, stream: usize, totals: &mut [u64; 3]) -> u8
-    ensures { λ r. ⌜ Reads packedTotals (λ (m : Meter). totalsOf m stream) (now (meter .entry)) (now (totals .entry)) r (now (totals .exit)) ⌝ }
+    ensures { λ r. ⌜ OnReading packedTotals (λ (m : Meter). totalsOf m stream) (now (meter .entry)) (now (totals .entry)) r (now (totals .exit)) ⌝ }
 {
     lent_meter::totals(meter, stream, totals)
 }
@@ -66,7 +66,7 @@ pub extern "C" fn loonstool_meter_totals(meter: &Words, stream: usize, totals: &
 #[no_mangle]
 pub extern "C" fn loonstool_meter_mean(meter: &Words, stream: usize, mean: &mut u64) -> u8
     requires { ⌜ Lent (now meter) ⌝ }
-    ensures { λ r. ⌜ Reads (λ (h : ℕ). h) (λ (m : Meter). meanOf m stream) (now (meter .entry)) (now (mean .entry)) r (now (mean .exit)) ⌝ }
+    ensures { λ r. ⌜ OnReading (λ (h : ℕ). h) (λ (m : Meter). meanOf m stream) (now (meter .entry)) (now (mean .entry)) r (now (mean .exit)) ⌝ }
 {
     lent_meter::mean(meter, stream, mean)
 }

@@ -16,7 +16,7 @@ use Rattle.records.proofs.RoundTrips.{accepted-head}
 use Rattle.records.proofs.Accepted.{acceptable}
 use Rattle.properties.specs.Bounds.{calorificLow}
 use Rattle.properties.specs.Quantities.{calorificBound}
-use Rattle.properties.proofs.Gas.{floored, bounded}
+use Rattle.properties.proofs.Gas.{proper}
 use Rattle.meter.specs.declared.InForce.{InForce}
 use Rattle.meter.specs.declared.InForce.the-variants.{Nothing, Known}
 use Rattle.meter.specs.declared.Register.{Register}
@@ -63,7 +63,7 @@ analysis-keeps m k bs v after gives h =
     let old = h .each k (c .stream) in
     let gas = acceptable bs (c .clear) in
     record {
-      analysis = record { pair = accepted-head bs (c .clear) .pair; floored = floored (contentsIn bs) gas; bounded = bounded (contentsIn bs) gas };
+      analysis = record { pair = accepted-head bs (c .clear) .pair; properties = proper (contentsIn bs) gas };
       totals = old .totals;
     })
   where
@@ -79,7 +79,7 @@ sound-metered s w (Known gas) is old total =
       analysis = rw is b;
       totals = record {
         volume = total;
-        superior = sound-booked perMJ (omega arith) calorificLow calorificBound (t .volume) w _ (t .superior) (old .totals .superior) (b .floored .Hs) (b .bounded .Hs);
+        superior = sound-booked perMJ (omega arith) calorificLow calorificBound (t .volume) w _ (t .superior) (old .totals .superior) (b .properties .floored .Hs) (b .properties .bounded .Hs);
       };
     }
 

@@ -48,12 +48,19 @@ volumeOrder fifteen sixteen seventeen = (15, fifteen) ∷ (16, sixteen) ∷ (17,
 abbrev pub zeroOrder : Bool → Order
 zeroOrder eighteen = (18, eighteen) ∷ []
 
+-- the order of each call on a stream s, where 13 does not hold
+abbrev pub streamAnalysisOrder : List ℕ → Stream → Order
+streamAnalysisOrder bs s = recordOrder bs ++ pairOrder (pairDiffers (s .analysis) (combustionIn bs) (meteringIn bs))
+
+abbrev pub streamMeteringOrder : ℕ → Stream → Order
+streamMeteringOrder v s = volumeOrder (volumeAbove v) (noAnalysis (s .analysis)) (totalPasses (s .totals .volume) v)
+
 -- the order of each call on the stream k; s is that stream
 abbrev pub analysisOrder : ℕ → List ℕ → Stream → Order
-analysisOrder k bs s = (13, streamAbove k) ∷ recordOrder bs ++ pairOrder (pairDiffers (s .analysis) (combustionIn bs) (meteringIn bs))
+analysisOrder k bs s = (13, streamAbove k) ∷ streamAnalysisOrder bs s
 
 abbrev pub meteringOrder : ℕ → ℕ → Stream → Order
-meteringOrder k v s = (13, streamAbove k) ∷ volumeOrder (volumeAbove v) (noAnalysis (s .analysis)) (totalPasses (s .totals .volume) v)
+meteringOrder k v s = (13, streamAbove k) ∷ streamMeteringOrder v s
 
 abbrev pub totalsOrder : ℕ → Order
 totalsOrder k = (13, streamAbove k) ∷ []

@@ -4,8 +4,8 @@ use mathlib.Core.Bool.{true}
 use Prim.Native.Nat.{ℕ, _+_, _*_, _≤_, _<_}
 use lib.ListN.{length, getD, set, replicate}
 use Rattle.records.specs.Conditions.{permitted}
-use Rattle.properties.specs.Bounds.{calorificLow, Floored}
-use Rattle.properties.specs.Quantities.{calorificBound, Bounded}
+use Rattle.properties.specs.Bounds.{calorificLow, Proper}
+use Rattle.properties.specs.Quantities.{calorificBound}
 use Rattle.properties.specs.Answers.{numbers}
 use Rattle.meter.specs.declared.Gas.{Gas}
 use Rattle.meter.specs.declared.InForce.{InForce}
@@ -69,11 +69,10 @@ pub record SoundTotals (t : StreamTotals) : Type 0 where
   pub volume : t .volume ≤ mostTotal
   pub superior : SoundRegister perMJ calorificLow calorificBound (t .volume) (t .superior)
 
--- what holds of every gas in force: the pair is permitted, and each property lies between its floor and its ceiling
+-- what holds of every gas in force: the pair is permitted, and the properties are those of an accepted record as far as `Proper` tells
 pub record SoundGas (gas : Gas) : Type 0 where
   pub pair : permitted (gas .combustion) (gas .metering) ≡ true
-  pub floored : Floored (numbers (gas .properties))
-  pub bounded : Bounded (numbers (gas .properties))
+  pub properties : Proper (numbers (gas .properties))
 
 -- what holds of a stream's totals beside its analysis: with none, they are as made
 abbrev pub SoundAnalysis : InForce → StreamTotals → Type 0

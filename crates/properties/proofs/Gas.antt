@@ -1,4 +1,4 @@
--- The gas of every accepted record: its sums and steps within their bounds, its properties below their ceilings and within their
+-- The gas of every accepted record: its sums and steps within their bounds, its properties between their floors and ceilings and within their
 -- distances.
 use mathlib.Core.Path.{_≡_, refl, ap}
 use mathlib.Core.Logic.{inl, inr}
@@ -20,10 +20,10 @@ use Rattle.records.specs.Order.{mapped}
 use Rattle.records.specs.Format.{Contents}
 use Rattle.records.specs.Accepted.{Acceptable}
 use Rattle.records.proofs.Accepted.{accepted-is-acceptable}
-use Rattle.properties.specs.Chain.{combustionPlace, T, D, HmSuperior, HmInferior, M, S, S9, Z, Hs, Hi, rho, A, G, d, r, W, idealCalorific, idealDensity, real, sixOf}
+use Rattle.properties.specs.Chain.{combustionPlace, T, D, HmSuperior, HmInferior, M, S, S9, Z, Hs, Hi, rho, A, G, d, r, W, idealCalorific, idealDensity, real, wobbe, rootOf, sixOf}
 use Rattle.properties.specs.Unrounded as unrounded
 use Rattle.properties.specs.Quantities.{calorificBound, densityBound, relativeBound, wobbeBound, Bounded}
-use Rattle.properties.specs.Bounds.{divisorLow, divisorHigh, airLow, airHigh, compressionLow, calorificLow, idealCalorificHigh, calorificHigh, densityLow, relativeLow, idealRelativeHigh, idealHigh, wobbeLow, Floored}
+use Rattle.properties.specs.Bounds.{divisorLow, divisorHigh, airLow, airHigh, compressionLow, calorificLow, idealCalorificHigh, calorificHigh, densityLow, relativeLow, idealRelativeHigh, idealHigh, wobbeLow, Floored, Proper}
 use Rattle.properties.specs.Distances.{Indexed, Distances}
 use Rattle.properties.specs.Accepted.{Amounts, Squares, EveryAcceptedRecord}
 use Rattle.properties.proofs.Approximations.{z-low, z-within, real-within}
@@ -207,7 +207,7 @@ module _ (k : Contents) (a : Acceptable k) where
       indexed 20 25 (Hs k) _ _ (d k) _ _ _ _ Hs-within d-within (root-of (d k) d-low d-high) (wobbe-near (d k) d-low d-high (Hs k))
       (omega (arith, low)) (omega (arith, low, high)) (omega (arith, wobbe-low (d k) d-low d-high (Hs k) Hs-low)) (omega (arith, low))
 
-  pub bounded : Bounded (sixOf k)
+  bounded : Bounded (sixOf k)
   bounded =
       record {
         Z = Z-high;
@@ -218,8 +218,15 @@ module _ (k : Contents) (a : Acceptable k) where
         W = W-high;
       }
 
-  pub floored : Floored (sixOf k)
+  floored : Floored (sixOf k)
   floored = record { Z = Z-low; Hs = Hs-low; Hi = Hi-low; rho = rho-low; d = d-low; W = W-low }
+
+  index : W k ≡ wobbe (Hs k) (rootOf (d k))
+  unfolding W r
+  index = refl
+
+  pub proper : Proper (sixOf k)
+  proper = record { floored = floored; bounded = bounded; index = index }
 
   pub distances : Distances k (sixOf k)
   distances = record { Z = Z-within; Hs = Hs-within; Hi = Hi-within; rho = rho-within; d = d-within; W = W-within }
@@ -236,6 +243,6 @@ every-accepted-record bs k e =
       amounts = amounts k a;
       squares = squares k a;
       root = greatest k a;
-      bounded = bounded k a;
+      proper = proper k a;
       within = distances k a;
     }

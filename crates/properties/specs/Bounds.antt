@@ -1,7 +1,9 @@
 -- Bounds of the numbers of each step. Those of an accepted record, `..Low` and `..High`, follow from the bounds of its sums
 -- (components/specs/Bounds.antt); `..Bound` in Quantities.antt is a ceiling.
+use mathlib.Core.Path.{_≡_}
 use Prim.Native.Nat.{ℕ, _*_, _≤_}
-use Rattle.properties.specs.Chain.{Six}
+use Rattle.properties.specs.Chain.{Six, wobbe, rootOf}
+use Rattle.properties.specs.Quantities.{Bounded}
 
 -- Hm, M and an ideal value that a step takes, of any gas, so that its products fit 64 bits
 abbrev pub anyHeat : ℕ
@@ -70,3 +72,9 @@ pub record Floored (p : Six) : Type 0 where
   pub rho : densityLow ≤ p .rho
   pub d : relativeLow ≤ p .d
   pub W : wobbeLow ≤ p .W
+
+-- what holds of the properties of every accepted record: each lies between its floor and its ceiling, and W is the index of Hs and d
+pub record Proper (p : Six) : Type 0 where
+  pub floored : Floored p
+  pub bounded : Bounded p
+  pub index : p .W ≡ wobbe (p .Hs) (rootOf (p .d))

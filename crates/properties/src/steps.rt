@@ -5,7 +5,7 @@ ghost use lib.IntN.{natAbs};
 ghost use Rattle.rounding.specs.Near.{near};
 ghost use Rattle.components.specs.Bounds.{heatHigh, massHigh, summationHigh};
 ghost use Rattle.properties.specs.Bounds.{anyHeat, anyMass, anyIdeal, airHigh, compressionLow, calorificHigh, relativeLow};
-ghost use Rattle.properties.specs.Quantities.{relativeBound};
+ghost use Rattle.properties.specs.Quantities.{calorificBound, relativeBound};
 ghost use Rattle.properties.specs.Chain.{forMetering, temperature, divisor, airFactor, tenth, compression, idealCalorific, real, idealDensity, idealRelative, rootOf, wobbe};
 use super::quantities::CalorificValue;
 use super::quantities::CompressionFactor;
@@ -122,11 +122,19 @@ pub fn relative_density(m: u64, air: u64, z: CompressionFactor) -> RelativeDensi
     RelativeDensity::new(real(ideal_relative_density(m, air), z))
 }
 
+// The index of a calorific value and a relative density, as a number.
+pub fn index(hs: u64, d: u64) -> u64
+    requires { ⌜ (hs ≤ calorificBound) × (relativeLow ≤ d) × (d ≤ relativeBound) ⌝ }
+    ensures { λ r. ⌜ r ≡ wobbe hs (rootOf d) ⌝ }
+{
+    let r = rounding::integer_root(d * 10000000000);
+    rounding::nearest(hs * 1000000000, r)
+}
+
 // 6. The Wobbe index.
 pub fn wobbe_index(hs: CalorificValue, d: RelativeDensity) -> WobbeIndex
     requires { ⌜ (hs .value ≤ calorificHigh) × (relativeLow ≤ d .value) × (d .value ≤ relativeBound) ⌝ }
     ensures { λ r. ⌜ r .value ≡ wobbe (hs .value) (rootOf (d .value)) ⌝ }
 {
-    let r = rounding::integer_root(d.value() * 10000000000);
-    WobbeIndex::new(rounding::nearest(hs.value() * 1000000000, r))
+    WobbeIndex::new(index(hs.value(), d.value()))
 }

@@ -1,5 +1,5 @@
 -- Which bytes the writer fills, and the round trips: a record read and written again has the same bytes, and contents written and
--- read again are the same. Who hands the reader's answer to the writer hands it the contents (`AnswerHoldsContents`).
+-- read again are the same. Whoever hands the reader's answer to the writer hands it the contents (`AnswerHoldsContents`).
 use mathlib.Core.Path.{_≡_}
 use mathlib.Core.List.{List}
 use Prim.Native.Nat.{ℕ, _≤_}

@@ -2,6 +2,7 @@
 use mathlib.Core.Path.{_≡_, refl}
 use mathlib.Core.List.{[], _∷_}
 use Prim.Native.Nat.{ℕ}
+use denote.Ref.{RefT}
 use Rattle.records.specs.Order.{Outcome, refused, accepted, firstOf, decided, otherwise}
 use Rattle.records.specs.Answers.{Gives, verdictOf}
 use Rattle.records.proofs.OrderLaws.{gives}
@@ -22,6 +23,10 @@ use Rattle.tally.specs.Demand.{EveryListHasRun, HasFresh}
 
 pub has-fresh : HasFresh
 has-fresh = record { meter = freshMeter; returns = λ p. refl }
+
+-- a reference to something
+abbrev pub to : {A : Type 0} → A → RefT A
+to a = record { ptr = (0, 0); name = 0; now = a }
 
 -- an answer with each meaning
 pub totals-with : Outcome StreamTotals → TotalsAnswer
@@ -58,7 +63,7 @@ has-step : (m : Meter) (k : ℕ) (ask : Ask) → HasStep m (on k ask)
 has-step m k (analysis bs) =
     let n = firstOf (analysisOrder k bs (streamAt m k)) in
     let new = withStream m k (analysed (streamAt m k) bs) in
-    record { answer = _; meter = _; step = by-analysis ([], tt) k (record { ptr = (0, 0); name = 0; now = bs }) (changed n m new) (λ p. changed-gives n m new) }
+    record { answer = _; meter = _; step = by-analysis ([], tt) k (to bs) (changed n m new) (λ p. changed-gives n m new) }
 has-step m k (metering v) =
     let n = firstOf (meteringOrder k v (streamAt m k)) in
     let new = withStream m k (metered (streamAt m k) v) in

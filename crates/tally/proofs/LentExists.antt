@@ -2,7 +2,6 @@
 use mathlib.Core.Path.{_≡_, refl, sym, subst}
 use mathlib.Core.List.{List, [], _∷_}
 use Prim.Native.Nat.{ℕ}
-use denote.Ref.{RefT, now}
 use Rattle.records.specs.Order.{Outcome, otherwise, mapped}
 use Rattle.records.specs.Answers.{numberOf, Returns}
 use Rattle.meter.specs.declared.Meter.{Meter}
@@ -11,11 +10,8 @@ use Rattle.meter.specs.Calls.{analysisOf, meteringOf, totalsOf, meanOf, afterAn
 use Rattle.lent_meter.specs.Words.{packedTotals, packed}
 use Rattle.lent_meter.proofs.Kept.{packed-otherwise, sound-after-analysis, sound-after-metering, words-tell}
 use Rattle.tally.specs.Tally.{Ask, analysis, metering, totals, mean, Call, on, Answer}
+use Rattle.tally.proofs.Exists.{to}
 use Rattle.tally.specs.LentRun.{Words, LentStep, by-analysis, by-metering, by-totals, by-mean, ended, after, HasLentRun, EveryListHasLentRun, HasFreshWords}
-
--- a reference to something
-abbrev to : {A : Type 0} → A → RefT A
-to a = record { ptr = (0, 0); name = 0; now = a }
 
 pub has-fresh-words : HasFreshWords
 has-fresh-words = record { words = to (packed freshMeter); gave = λ κs old p. refl }

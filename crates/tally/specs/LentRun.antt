@@ -1,5 +1,5 @@
--- What the exported functions of crates/loonstool did on lent words in a list of calls, and demand 3 of it: each run on words is a run of the
--- meter that the words hold.
+-- What the exported functions of crates/loonstool did on lent words in a list of calls, and demand 3 of it: each run on words is a run of
+-- the meter that the words hold.
 use mathlib.Core.Path.{_≡_}
 use mathlib.Core.List.{List, [], _∷_, _++_}
 use Prim.Native.Nat.{ℕ}

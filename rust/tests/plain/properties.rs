@@ -83,8 +83,7 @@ impl Sums {
         let hi = real(near(self.inferior * 1_013_250, conditions.d));
         let rho = real(near(self.mass * 10_132_500, conditions.d));
         let d = real(near(self.mass * conditions.air, 289_626_000));
-        let root = (d * 10_000_000_000).isqrt();
-        let w = near(hs * GIGA, root);
+        let w = index(hs, d);
         Properties {
             z,
             hs,
@@ -102,6 +101,12 @@ fn compression(factor: i64) -> u64 {
     let s9 = (factor + 5).div_euclid(10);
     let squared = s9.unsigned_abs().pow(2);
     near(GIGA * GIGA - squared, GIGA)
+}
+
+/// Step 6: the Wobbe index of Hs and d.
+pub fn index(hs: u64, d: u64) -> u64 {
+    let root = (d * 10_000_000_000).isqrt();
+    near(hs * GIGA, root)
 }
 
 /// The whole number nearest to n / q, halves upward.

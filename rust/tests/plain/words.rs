@@ -3,7 +3,7 @@
 
 use super::conditions::Conditions;
 use super::meter::{InForce, Meter, Stream, GREATEST_TOTAL, MEGAJOULE};
-use super::properties::six;
+use super::properties::{index, six};
 use loonstool::{Properties, Words, STREAM_WORDS};
 
 /// The words of a meter.
@@ -39,7 +39,8 @@ fn holds_a_stream(row: [u128; STREAM_WORDS]) -> bool {
     let ceilings = six(&Properties::CEILINGS).map(u128::from);
     let within = |six: [u128; 6]| {
         let between = |i: usize| (floors[i]..=ceilings[i]).contains(&six[i]);
-        (0..6).all(between)
+        let [_, hs, .., d, w] = six;
+        (0..6).all(between) && w == index(hs as u64, d as u64).into()
     };
     // Every dm³ was metered at an Hs between its floor and its ceiling.
     let energy = whole * u128::from(MEGAJOULE) + rest;

@@ -3,11 +3,11 @@ use mathlib.Core.Path.{refl}
 use native.Mathlib.Omega.{arith}
 use borrow.Author.Needs.{needs}
 use Rattle.meter.specs.State.{streamAt, withStream}
+use Rattle.meter.specs.Conditions.{streamAnalysisOrder}
 use Rattle.meter.specs.Calls.{analysed}
 use Rattle.meter.proofs.Orders.{above}
 use Rattle.lent_meter.specs.Words.{packed}
-use Rattle.lent_meter.specs.Lent.{rowAnalysisOrder}
-use Rattle.lent_meter.proofs.Outcomes.{refusal, row-holds, lifted}
+use Rattle.lent_meter.proofs.Outcomes.{number-refuses, row-holds, lifted}
 use Rattle.lent_meter.proofs.analysis.Statement.{statement}
 use Rattle.lent_meter.proofs.analysis.Tie as tie
 
@@ -15,7 +15,7 @@ returns : tie.Need-returns
 returns c m sound holds =
     let a = c .before .before .args in
     let s = streamAt m (a .stream) in
-    refusal packed (withStream m (a .stream) (analysed s (a .bytes .now))) _ (above (rowAnalysisOrder s (a .bytes .now)) (c .if1 .taken)) (λ z. omega arith) refl
+    number-refuses packed (withStream m (a .stream) (analysed s (a .bytes .now))) _ (above (streamAnalysisOrder (a .bytes .now) s) (c .if1 .taken)) (λ z. omega arith) refl
 
 returns-2 : tie.Need-returns-2
 returns-2 c m sound holds =
@@ -23,7 +23,7 @@ returns-2 c m sound holds =
     let a = b .before .before .args in
     let low = b .if1 .left in
     let s = streamAt m (a .stream) in
-    lifted m sound holds (a .stream) low (analysed s (a .bytes .now)) (rowAnalysisOrder s (a .bytes .now))
+    lifted m sound holds (a .stream) low (analysed s (a .bytes .now)) (streamAnalysisOrder (a .bytes .now) s)
     (c .analysis-row .ensures s (sound .each (a .stream) low) (row-holds m sound holds (a .stream) low))
 
 pub analysis-spec : {M : Type 1} → statement M

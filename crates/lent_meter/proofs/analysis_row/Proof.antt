@@ -10,7 +10,7 @@ use Rattle.records.specs.Conditions.{recordOrder}
 use Rattle.records.proofs.RoundTrips.{accepted-head}
 use Rattle.meter.specs.Calls.{analysed}
 use Rattle.lent_meter.specs.Words.{packedStream}
-use Rattle.lent_meter.proofs.Outcomes.{refusal, acceptance}
+use Rattle.lent_meter.proofs.Outcomes.{number-refuses, number-accepts}
 use Rattle.lent_meter.proofs.Rows.{record-refused, record-accepted, row-analysed}
 use Rattle.lent_meter.proofs.analysis_row.Statement.{statement}
 use Rattle.lent_meter.proofs.analysis_row.Tie as tie
@@ -41,20 +41,20 @@ returns : tie.Need-returns
 returns c s sound holds =
     let r = c .before in
     let bytes = r .before .before .args .bytes .now in
-    refusal packedStream (analysed s bytes) _ (record-refused s holds bytes (r .refusal .ensures) (c .if1 .taken)) (c .if1 .taken) refl
+    number-refuses packedStream (analysed s bytes) _ (record-refused s holds bytes (r .refusal .ensures) (c .if1 .taken)) (c .if1 .taken) refl
 
 returns-2 : tie.Need-returns-2
 returns-2 c s sound holds =
     let w = c .before .before .before .before in
     let e = found w in
-    refusal packedStream (analysed s (bs e)) _ (record-accepted s holds (bs e) (combustion-is w) (metering-is w) (accepts e) (c .if2 .taken)) (λ z. omega arith) refl
+    number-refuses packedStream (analysed s (bs e)) _ (record-accepted s holds (bs e) (combustion-is w) (metering-is w) (accepts e) (c .if2 .taken)) (λ z. omega arith) refl
 
 returns-3 : tie.Need-returns-3
 returns-3 c s sound holds =
     let p = c .before .before in
     let w = p .before .before .before .before .before in
     let e = found w in
-    acceptance packedStream (analysed s (bs e)) _ (record-accepted s holds (bs e) (combustion-is w) (metering-is w) (accepts e) (p .before .if2 .left)) refl
+    number-accepts packedStream (analysed s (bs e)) _ (record-accepted s holds (bs e) (combustion-is w) (metering-is w) (accepts e) (p .before .if2 .left)) refl
     (c .put-gas .ensures ∙ row-analysed s holds (bs e) (combustion-is w) (metering-is w) (p .calculate .ensures))
 
 pub analysis-row-spec : {M : Type 1} → statement M

@@ -13,7 +13,7 @@ use Rattle.meter.specs.Calls.{meanIn, meanOf}
 use Rattle.meter.specs.Answers.{meanMeaning}
 use Rattle.meter.proofs.Orders.{above, not-above}
 use Rattle.lent_meter.specs.Words.{packed}
-use Rattle.lent_meter.proofs.Outcomes.{refusal, row-holds, lent-row}
+use Rattle.lent_meter.proofs.Outcomes.{number-refuses, row-holds, lent-row}
 use Rattle.lent_meter.proofs.Rows.{totals-are}
 use Rattle.lent_meter.proofs.mean.Statement.{statement}
 use Rattle.lent_meter.proofs.mean.Tie as tie
@@ -21,7 +21,7 @@ use Rattle.lent_meter.proofs.mean.Tie as tie
 returns : tie.Need-returns
 returns c m sound holds =
     let s = streamAt m (c .before .args .stream) in
-    refusal (λ (h : ℕ). h) (meanIn (s .totals .superior) (s .totals .volume)) _ (above (zeroOrder (totalZero (s .totals .volume))) (c .if1 .taken)) (λ z. omega arith) refl
+    number-refuses (λ (h : ℕ). h) (meanIn (s .totals .superior) (s .totals .volume)) _ (above (zeroOrder (totalZero (s .totals .volume))) (c .if1 .taken)) (λ z. omega arith) refl
 
 mean-over-requires : tie.Need-mean-over-requires
 mean-over-requires c κs =

@@ -3,11 +3,11 @@ use mathlib.Core.Path.{refl}
 use native.Mathlib.Omega.{arith}
 use borrow.Author.Needs.{needs}
 use Rattle.meter.specs.State.{streamAt, withStream}
+use Rattle.meter.specs.Conditions.{streamMeteringOrder}
 use Rattle.meter.specs.Calls.{metered}
 use Rattle.meter.proofs.Orders.{above}
 use Rattle.lent_meter.specs.Words.{packed}
-use Rattle.lent_meter.specs.Lent.{rowMeteringOrder}
-use Rattle.lent_meter.proofs.Outcomes.{refusal, row-holds, lifted, lent-row}
+use Rattle.lent_meter.proofs.Outcomes.{number-refuses, row-holds, lifted, lent-row}
 use Rattle.lent_meter.proofs.metering.Statement.{statement}
 use Rattle.lent_meter.proofs.metering.Tie as tie
 
@@ -15,7 +15,7 @@ returns : tie.Need-returns
 returns c m sound holds =
     let a = c .before .args in
     let s = streamAt m (a .stream) in
-    refusal packed (withStream m (a .stream) (metered s (a .volume))) _ (above (rowMeteringOrder s (a .volume)) (c .if1 .taken)) (λ z. omega arith) refl
+    number-refuses packed (withStream m (a .stream) (metered s (a .volume))) _ (above (streamMeteringOrder (a .volume) s) (c .if1 .taken)) (λ z. omega arith) refl
 
 metering-row-requires : tie.Need-metering-row-requires
 metering-row-requires c κs = lent-row (c .before .before .args .stream) (c .before .before .pre) (c .before .if1 .left)
@@ -26,7 +26,7 @@ returns-2 c m sound holds =
     let a = b .before .args in
     let low = b .if1 .left in
     let s = streamAt m (a .stream) in
-    lifted m sound holds (a .stream) low (metered s (a .volume)) (rowMeteringOrder s (a .volume))
+    lifted m sound holds (a .stream) low (metered s (a .volume)) (streamMeteringOrder (a .volume) s)
     (c .metering-row .ensures s (sound .each (a .stream) low) (row-holds m sound holds (a .stream) low))
 
 pub metering-spec : {M : Type 1} → statement M

@@ -8,7 +8,7 @@ use Rattle.meter.specs.declared.Stream.{Stream}
 use Rattle.meter.specs.State.{SoundTotals}
 use Rattle.meter.specs.Calls.{metered}
 use Rattle.lent_meter.specs.Words.{packedStream}
-use Rattle.lent_meter.proofs.Outcomes.{refusal, acceptance}
+use Rattle.lent_meter.proofs.Outcomes.{number-refuses, number-accepts}
 use Rattle.lent_meter.proofs.Rows.{none-is, totals-are, six-bounded, fifteen, sixteen, seventeen, clear, row-metered}
 use Rattle.lent_meter.proofs.metering_row.Statement.{statement}
 use Rattle.lent_meter.proofs.metering_row.Tie as tie
@@ -28,13 +28,13 @@ module _ (c : tie.After-totals-in) where
   sound = let l = start .pre in rw (read (l .stream) (l .holds)) (l .sound .totals)
 
 returns : tie.Need-returns
-returns c s sound holds = let v = c .before .args .volume in refusal packedStream (metered s v) _ (fifteen s v (c .if1 .taken)) (λ z. omega arith) refl
+returns c s sound holds = let v = c .before .args .volume in number-refuses packedStream (metered s v) _ (fifteen s v (c .if1 .taken)) (λ z. omega arith) refl
 
 returns-2 : tie.Need-returns-2
 returns-2 c s sound holds =
     let e = c .before .before in
     let v = e .before .args .volume in
-    refusal packedStream (metered s v) _ (sixteen s v (e .if1 .left) (none-is s holds (eq-eqb _ 0 (c .if2 .taken)))) (λ z. omega arith) refl
+    number-refuses packedStream (metered s v) _ (sixteen s v (e .if1 .left) (none-is s holds (eq-eqb _ 0 (c .if2 .taken)))) (λ z. omega arith) refl
 
 add-if3 : tie.Need-add-if3
 add-if3 c = omega (arith, sound (c .before) .volume, c .before .before .before .before .before .if1 .left)
@@ -45,7 +45,7 @@ returns-3 c s sound holds =
     let d = t .before .before in
     let e = d .before .before in
     let v = e .before .args .volume in
-    refusal packedStream (metered s v) _
+    number-refuses packedStream (metered s v) _
     (seventeen s v (e .if1 .left) (none-is s holds (ne-eqb _ 0 (d .if2 .left))) (omega (arith, c .if3 .taken, volume-is t s holds)))
     (λ z. omega arith) refl
 
@@ -71,7 +71,7 @@ returns-4 c s sound holds =
     let e = d .before .before in
     let v = e .before .args .volume in
     let some = none-is s holds (ne-eqb _ 0 (d .if2 .left)) in
-    acceptance packedStream (metered s v) _
+    number-accepts packedStream (metered s v) _
     (clear s v (e .if1 .left) some (omega (arith, b .if3 .left, volume-is t s holds))) refl
     (c .put-totals .ensures ∙ row-metered s holds some v (t .totals-in .ensures) (p .properties-in .ensures) (a .added .ensures))
 

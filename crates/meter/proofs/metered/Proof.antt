@@ -11,7 +11,7 @@ added-requires c κs =
     let s = c .before .before .before .before in
     let p = s .pre in
     let gas = subst (λ (a : InForce). SoundAnalysis a (s .args .before .totals)) (c .before .analysis .given .1) (p .0 .analysis) in
-    ((p .0 .totals, gas .bounded), p .1)
+    ((p .0 .totals, gas .properties .bounded), p .1)
 
 returns-2 : tie.Need-returns-2
 returns-2 c = rw (c .before .before .analysis .given .1, c .added .ensures)

@@ -31,7 +31,7 @@ loop-again : tie.Need-loop-again Inv-loop μ-loop
 loop-again c =
     let h = c .before in
     let l = h .before .before .before .loop in
-    (omega arith, l .inv .1, one-more (l .k) (l .inv .2) (h .holds-stream .ensures .yes (not-false _ (c .if1 .left))))
+    (omega arith, l .inv .1, one-more (l .k) (l .inv .2) (h .holds-stream .ensures .only (not-false _ (c .if1 .left))))
 
 returns-2 : tie.Need-returns-2 Inv-loop μ-loop
 returns-2 c = let l = c .before .loop in tells-true (λ k h. l .inv .2 k (omega arith))

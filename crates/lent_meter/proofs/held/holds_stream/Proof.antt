@@ -21,7 +21,7 @@ module _ (c : tie.After-all-zero) where
   zeros = ap (λ (n : ℕ). replicate n 0) long
 
 returns : tie.Need-returns
-returns c = let z = c .before in tells-true (blank-holds (row z) (z .all-zero .ensures .yes (c .if1 .taken) ∙ zeros z))
+returns c = let z = c .before in tells-true (blank-holds (row z) (z .all-zero .ensures .only (c .if1 .taken) ∙ zeros z))
 
 returns-2 : tie.Need-returns-2
 returns-2 c =
@@ -29,7 +29,7 @@ returns-2 c =
     let p = b .before in
     let e = p .before .before .before .before in
     let z = e .before in
-    row-holds (row z) (long z) (λ h. untold (z .all-zero .ensures) (e .if1 .left) (h ∙ sym (zeros z))) _ _ _ (p .pair-holds .ensures) (b .holds-properties .ensures)
+    row-holds (row z) (long z) (λ h. untold (z .all-zero .ensures) (e .if1 .left) (h ∙ sym (zeros z))) (p .pair-holds .ensures) (b .holds-properties .ensures)
     (c .holds-totals .ensures)
 
 pub holds-stream-spec : {M : Type 1} → statement M
