@@ -153,7 +153,7 @@ fn one_word_damaged() {
             }
         }
     }
-    counts.print("one word damaged", 5_000);
+    counts.print("one word damaged", 1_000);
 }
 
 /// The stream and the place of every word.
