@@ -407,8 +407,8 @@ static uint64_t index_of(uint64_t hs, uint64_t d)
     return (hs * 1000000000 + root / 2) / root;
 }
 
-/* Whether the words of a stream can be those of a meter: each lies between its lowest and its highest, W is the index of Hs and d, and the
- * energy lies between volume x the floor and volume x the ceiling of Hs; without an analysis all are 0. */
+/* Whether the words of a stream can be those of a meter: each lies between its lowest and its highest, Hi is not above Hs, W is the index of
+ * Hs and d, and the energy lies between volume x the floor and volume x the ceiling of Hs; without an analysis all are 0. */
 static bool can_be(const uint64_t *words)
 {
     wide energy = (wide)words[ENERGY_MJ] * 1000000000 + words[ENERGY_REST];
@@ -420,8 +420,8 @@ static bool can_be(const uint64_t *words)
             return false;
     for (size_t i = 0; i < 6; i++)
         permitted |= words[COMBUSTION] == pairs[i][0] && words[METERING] == pairs[i][1];
-    return permitted && words[W] == index_of(words[HS], words[D]) && energy >= (wide)words[VOLUME] * lowest[HS] &&
-           energy <= (wide)words[VOLUME] * highest[HS];
+    return permitted && words[HI] <= words[HS] && words[W] == index_of(words[HS], words[D]) &&
+           energy >= (wide)words[VOLUME] * lowest[HS] && energy <= (wide)words[VOLUME] * highest[HS];
 }
 
 /* loonstool_meter_check gives what it should on the words as they are, and does not write to them. */
@@ -437,12 +437,12 @@ static void expect_check(const char *what, size_t at)
     damages += !right;
 }
 
-/* A word of a stream set to what is at a limit, and each bit of it flipped. */
+/* A word of a stream set to what is at a limit, Hs among them, and each bit of it flipped. */
 static void try_word(size_t stream, size_t word)
 {
-    uint64_t *words = meter->words[stream], was = words[word];
-    const uint64_t values[] = {0,       1,       2,                15,           20,            25,               1000000000, UINT64_MAX,
-                               was - 1, was + 1, lowest[word] - 1, lowest[word], highest[word], highest[word] + 1};
+    uint64_t *words = meter->words[stream], was = words[word], hs = words[HS];
+    const uint64_t values[] = {0,  1,      2,       15,      20,               25,           1000000000,    UINT64_MAX,
+                               hs, hs + 1, was - 1, was + 1, lowest[word] - 1, lowest[word], highest[word], highest[word] + 1};
     for (size_t i = 0; i < sizeof values / sizeof *values; i++) {
         words[word] = values[i];
         expect_check("a word at a limit", stream * WORDS + word);

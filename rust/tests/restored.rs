@@ -133,11 +133,12 @@ fn limits() -> Vec<u64> {
         .collect()
 }
 
-/// What a word may be damaged to.
-fn damages(word: u64) -> Vec<u64> {
+/// What a word of a stream may be damaged to: a limit, what another word of the stream is, one more or less, or a flipped bit.
+fn damages(row: &[u64; STREAM_WORDS], place: usize) -> Vec<u64> {
     let mut damages = limits();
-    damages.extend([word.wrapping_add(1), word.wrapping_sub(1)]);
-    damages.extend((0..64).map(|bit| word ^ (1 << bit)));
+    let beside = |word: &u64| [*word, word.wrapping_add(1), word.wrapping_sub(1)];
+    damages.extend(row.iter().flat_map(beside));
+    damages.extend((0..64).map(|bit| row[place] ^ (1 << bit)));
     damages
 }
 
@@ -146,7 +147,7 @@ fn one_word_damaged() {
     let mut counts = Counts::default();
     for meter in meters() {
         for (stream, place) in places() {
-            for damage in damages(meter.words()[stream][place]) {
+            for damage in damages(&meter.words()[stream], place) {
                 let mut words = *meter.words();
                 words[stream][place] = damage;
                 counts.restore(&words, stream);

@@ -8,12 +8,12 @@ use native.Mathlib.Omega.{arith}
 use lib.Dec.{leb, ltb, leb→le}
 use lib.IntN.{natAbs}
 use borrow.Author.Tests.{le-ltb}
-use Rattle.components.specs.Table.{componentTable, entryOf, molarMass, summation, Heat, Unsigned}
+use Rattle.components.specs.Table.{componentTable, entryOf, molarMass, summation, superior, inferior, Heat, Unsigned}
 use Rattle.components.specs.Composition.{sumOf}
-use Rattle.components.specs.Bounds.{MethaneBounds}
+use Rattle.components.specs.Bounds.{MethaneBounds, InferiorBelow}
 use Rattle.components.proofs.Every.{at, unless}
-use Rattle.components.proofs.Entries.{largest, heaviest, greatest-s, entry-below, mass-below, summation-below}
-use Rattle.components.proofs.SumLaws.{sizes, sum-is-sizes, sum-within-sizes, share-low, share-high}
+use Rattle.components.proofs.Entries.{largest, heaviest, greatest-s, entry-below, mass-below, summation-below, heats-ordered}
+use Rattle.components.proofs.SumLaws.{sizes, sum-is-sizes, sum-within-sizes, sizes-below, share-low, share-high}
 
 -- methane's numbers: h from 802.60 to 892.97 kJ/mol, molar mass 16.043 kg/kmol, s up to 0.0490
 least : ℕ → Bool
@@ -57,3 +57,9 @@ methane-bounds ls xs g methane =
       summation-high = λ k h.
           omega (arith, sum-within-sizes (summation k) ls xs, g .sum, share-high (summation k) 1 490 greatest-s (omega arith) (factor-most k h) (summation-below k h) ls xs);
     }
+
+pub inferior-below : InferiorBelow
+inferior-below t h ls xs =
+    let high = size-is (superior t) (inr (omega arith, omega arith)) ls xs in
+    let low = size-is (inferior t) (inr (omega arith, omega arith)) ls xs in
+    omega (arith, high, low, sizes-below (inferior t) (superior t) (heats-ordered t h) ls xs)

@@ -13,7 +13,7 @@ use borrow.Author.Tests.{le-ltb}
 use mir.Syntax.{w32}
 use mir.Val.{SFits}
 use Rattle.rounding.proofs.SignedWords.{mag≤}
-use Rattle.components.specs.Table.{componentTable, entryOf, molarMass, summation, Heat, Unsigned}
+use Rattle.components.specs.Table.{componentTable, entryOf, molarMass, summation, superior, inferior, Heat, Unsigned}
 use Rattle.components.specs.Tests.{all}
 use Rattle.components.proofs.Every.{at, every, all-at, unless}
 
@@ -52,6 +52,15 @@ pub summation-below : (k : ℕ) → k < 3 → (l : ℕ) → natAbs (entryOf l (s
 unfolding summable componentTable
 summation-below k h l =
     leb→le _ _ (at (summable (getD componentTable (l - 1) [])) 3 (row-at (λ (row : List ℤ). every (summable row) 3) tt tt l) k h)
+
+-- no inferior h is above the superior h of its line at the same temperature
+ordered : List ℤ → ℕ → Bool
+ordered row t = leb (natAbs (getD row (inferior t) (pos 0))) (natAbs (getD row (superior t) (pos 0)))
+
+pub heats-ordered : (t : ℕ) → t < 4 → (l : ℕ) → natAbs (entryOf l (inferior t)) ≤ natAbs (entryOf l (superior t))
+unfolding ordered componentTable
+heats-ordered t h l =
+    leb→le _ _ (at (ordered (getD componentTable (l - 1) [])) 4 (row-at (λ (row : List ℤ). every (ordered row) 4) tt tt l) t h)
 
 pub entry-fits : (l c : ℕ) → SFits w32 (entryOf l c)
 entry-fits l c = record { sfits = lt-of-le-of-lt (mag≤ (entryOf l c)) (omega (arith, entry-below l c)) }

@@ -1,8 +1,9 @@
--- Bounds of the sums of a composition with the least fraction of methane or more, whatever its other lines are.
+-- Bounds of the sums of a composition with the least fraction of methane or more, whatever its other lines are; and the order of Hm,
+-- inferior and superior, of any composition.
 use mathlib.Core.List.{List}
 use Prim.Native.Nat.{ℕ, _≤_, _<_}
 use lib.IntN.{natAbs}
-use Rattle.components.specs.Table.{molarMass, summation, Heat}
+use Rattle.components.specs.Table.{molarMass, summation, superior, inferior, Heat}
 use Rattle.components.specs.Composition.{Composition, leastMethane, fractionFor, sumOf}
 
 -- Hm, superior or inferior, unit 10^-9 kJ/mol
@@ -32,3 +33,7 @@ pub record Bounds (ls xs : List ℕ) : Type 0 where
 
 abbrev pub MethaneBounds : Type 0
 MethaneBounds = (ls xs : List ℕ) → Composition ls xs → leastMethane ≤ fractionFor 1 ls xs → Bounds ls xs
+
+-- Hm inferior is not above Hm superior at the same temperature, the t-th
+abbrev pub InferiorBelow : Type 0
+InferiorBelow = (t : ℕ) → t < 4 → (ls xs : List ℕ) → natAbs (sumOf (inferior t) ls xs) ≤ natAbs (sumOf (superior t) ls xs)

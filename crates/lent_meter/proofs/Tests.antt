@@ -32,11 +32,11 @@ large-metering c m h =
     rw (ne-eqb m 15 (λ e. omega arith), ne-eqb m 0 (λ e. omega arith), ne-eqb m 20 (λ e. omega arith), and-false (eqb c 15), and-false (eqb c 0), and-false (eqb c 25), and-false (eqb c 20))
 
 -- the properties
-between-yes : (a x b : ℕ) → between a x b ≡ true → (a ≤ x) × (x ≤ b)
-between-yes a x b e = let z = both _ _ e in (leb-true a x (z .0), leb-true x b (z .1))
+between-only : (a x b : ℕ) → between a x b ≡ true → (a ≤ x) × (x ≤ b)
+between-only a x b e = let z = both _ _ e in (leb-true a x (z .0), leb-true x b (z .1))
 
-between-no : (a x b : ℕ) → a ≤ x → x ≤ b → between a x b ≡ true
-between-no a x b low high = rw (le-leb a x low, le-leb x b high)
+between-always : (a x b : ℕ) → a ≤ x → x ≤ b → between a x b ≡ true
+between-always a x b low high = rw (le-leb a x low, le-leb x b high)
 
 pub ranges-hold : (p : Six) → Tells (withinRanges p) (Floored p × Bounded p)
 ranges-hold p =
@@ -47,26 +47,29 @@ ranges-hold p =
           let r = both _ _ (d .0) in
           let i = both _ _ (r .0) in
           let s = both _ _ (i .0) in
-          let Z = between-yes _ (p .Z) _ (s .0) in
-          let Hs = between-yes _ (p .Hs) _ (s .1) in
-          let Hi = between-yes _ (p .Hi) _ (i .1) in
-          let rho = between-yes _ (p .rho) _ (r .1) in
-          let dd = between-yes _ (p .d) _ (d .1) in
-          let W = between-yes _ (p .W) _ (w .1) in (
+          let Z = between-only _ (p .Z) _ (s .0) in
+          let Hs = between-only _ (p .Hs) _ (s .1) in
+          let Hi = between-only _ (p .Hi) _ (i .1) in
+          let rho = between-only _ (p .rho) _ (r .1) in
+          let dd = between-only _ (p .d) _ (d .1) in
+          let W = between-only _ (p .W) _ (w .1) in (
             record { Z = Z .0; Hs = Hs .0; Hi = Hi .0; rho = rho .0; d = dd .0; W = W .0 },
             record { Z = Z .1; Hs = Hs .1; Hi = Hi .1; rho = rho .1; d = dd .1; W = W .1 },
           );
       always = λ h.
           let f = h .0 in
           let b = h .1 in
-          rw (between-no _ _ _ (f .Z) (b .Z), between-no _ _ _ (f .Hs) (b .Hs), between-no _ _ _ (f .Hi) (b .Hi), between-no _ _ _ (f .rho) (b .rho), between-no _ _ _ (f .d) (b .d), between-no _ _ _ (f .W) (b .W));
+          rw (between-always _ _ _ (f .Z) (b .Z), between-always _ _ _ (f .Hs) (b .Hs), between-always _ _ _ (f .Hi) (b .Hi), between-always _ _ _ (f .rho) (b .rho), between-always _ _ _ (f .d) (b .d), between-always _ _ _ (f .W) (b .W));
     }
 
--- within their ranges, from the test of the index
-pub properties-hold : (p : Six) → withinRanges p ≡ true → Tells (eqb (p .W) (wobbe (p .Hs) (rootOf (p .d)))) (Proper p)
+-- within their ranges, from the tests of the order and of the index
+pub properties-hold : (p : Six) → withinRanges p ≡ true → Tells (leb (p .Hi) (p .Hs) && eqb (p .W) (wobbe (p .Hs) (rootOf (p .d)))) (Proper p)
 properties-hold p within =
     let r = ranges-hold p .only within in
-    record { only = λ e. record { floored = r .0; bounded = r .1; index = eqb-true _ _ e }; always = λ q. eq-eqb _ _ (q .index) }
+    record {
+      only = λ y. let z = both _ _ y in record { floored = r .0; bounded = r .1; order = leb-true _ _ (z .0); index = eqb-true _ _ (z .1) };
+      always = λ q. rw (le-leb _ _ (q .order), eq-eqb _ _ (q .index));
+    }
 
 -- volume × value by the two digits of the volume: `high` is the first one times the value, and `share` the unit without the base
 module _ (u v x : ℕ) (unit : RegisterUnit u) where

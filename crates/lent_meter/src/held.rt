@@ -81,7 +81,8 @@ fn holds_properties(row: &Row) -> bool
     if !within_ranges(row) {
         return false;
     }
-    row[words::W] == steps::index(row[words::HS], row[words::D])
+    (row[words::HI] <= row[words::HS])
+        & (row[words::W] == steps::index(row[words::HS], row[words::D]))
 }
 
 // Volume × value as a register, `unit` of whose rest make one whole.

@@ -3,19 +3,19 @@
 use mathlib.Core.Path.{_≡_, refl, ap}
 use mathlib.Core.Logic.{inl, inr}
 use Prim.Native.Nat.{ℕ, _*_, _^_, _≤_}
-use native.Mathlib.Nat.{mul-le-mul}
+use native.Mathlib.Nat.{mul-le-mul, mul-le-mul-right}
 use native.Mathlib.Omega.{arith}
 use lib.IntN.{pos, natAbs}
 use Rattle.rounding.specs.Fraction.{Within, _over_, half, whole}
 use Rattle.rounding.specs.Root.{Root}
-use Rattle.rounding.proofs.NearLaws.{near-z-half}
+use Rattle.rounding.proofs.NearLaws.{near-monotone, near-z-half}
 use Rattle.rounding.proofs.FractionLaws.{within-wider, within-one}
 use Rattle.components.specs.Table.{superior, inferior, Heat, Unsigned}
 use Rattle.components.specs.Composition.{sumOf, overLines}
 use Rattle.components.specs.Bounds.{heatLow, heatHigh, massLow, massHigh, summationHigh, Bounds}
 use Rattle.components.proofs.SumLaws.{sum-is-sizes}
 use Rattle.components.proofs.AllLines.{sums-run-over-all-lines}
-use Rattle.components.proofs.Bounds.{methane-bounds}
+use Rattle.components.proofs.Bounds.{methane-bounds, inferior-below}
 use Rattle.records.specs.Order.{mapped}
 use Rattle.records.specs.Format.{Contents}
 use Rattle.records.specs.Accepted.{Acceptable}
@@ -70,6 +70,10 @@ module _ (k : Contents) (a : Acceptable k) where
   inferior-low : heatLow ≤ HmInferior k
   unfolding HmInferior
   inferior-low = rw (over-entries _) (in-bounds .heat-low _ (heats (k .combustion) .1))
+
+  heats-ordered : HmInferior k ≤ HmSuperior k
+  unfolding HmInferior HmSuperior
+  heats-ordered = rw (over-entries _, over-entries _) (inferior-below _ (combustion-place (k .combustion)) (k .lines) (k .fractions))
 
   pub mass-low : massLow ≤ M k
   unfolding M
@@ -175,6 +179,12 @@ module _ (k : Contents) (a : Acceptable k) where
   unfolding Hi
   Hi-low = real-low _ (Z k) Z-low Z-high calorificLow (ideal-calorific-low (HmInferior k) (D k) inferior-low (omega (arith, D-low)) D-high)
 
+  Hi-below : Hi k ≤ Hs k
+  unfolding Hi Hs
+  Hi-below =
+      let ideal = near-monotone _ _ (D k) (omega (arith, D-low)) (mul-le-mul-right 1013250 heats-ordered) in
+      near-monotone _ _ (Z k) (omega (arith, Z-low)) (mul-le-mul-right (10 ^ 9) ideal)
+
   rho-high : rho k ≤ densityBound
   unfolding rho
   rho-high = real-high _ (Z k) Z-low densityBound (omega (arith, mass-ideal))
@@ -226,7 +236,7 @@ module _ (k : Contents) (a : Acceptable k) where
   index = refl
 
   pub proper : Proper (sixOf k)
-  proper = record { floored = floored; bounded = bounded; index = index }
+  proper = record { floored = floored; bounded = bounded; order = Hi-below; index = index }
 
   pub distances : Distances k (sixOf k)
   distances = record { Z = Z-within; Hs = Hs-within; Hi = Hi-within; rho = rho-within; d = d-within; W = W-within }

@@ -73,8 +73,10 @@ pub record Floored (p : Six) : Type 0 where
   pub d : relativeLow ≤ p .d
   pub W : wobbeLow ≤ p .W
 
--- what holds of the properties of every accepted record: each lies between its floor and its ceiling, and W is the index of Hs and d
+-- what holds of the properties of every accepted record: each lies between its floor and its ceiling, Hi is not above Hs, and W is the
+-- index of Hs and d
 pub record Proper (p : Six) : Type 0 where
   pub floored : Floored p
   pub bounded : Bounded p
+  pub order : p .Hi ≤ p .Hs
   pub index : p .W ≡ wobbe (p .Hs) (rootOf (p .d))

@@ -1,4 +1,4 @@
-//! The words that the library keeps a meter in, in the header's order, and
+//! The words that the library keeps a meter in, in the library's order, and
 //! which words hold a meter.
 
 use super::conditions::Conditions;
@@ -39,8 +39,8 @@ fn holds_a_stream(row: [u128; STREAM_WORDS]) -> bool {
     let ceilings = six(&Properties::CEILINGS).map(u128::from);
     let within = |six: [u128; 6]| {
         let between = |i: usize| (floors[i]..=ceilings[i]).contains(&six[i]);
-        let [_, hs, .., d, w] = six;
-        (0..6).all(between) && w == index(hs as u64, d as u64).into()
+        let [_, hs, hi, _, d, w] = six;
+        (0..6).all(between) && hi <= hs && w == index(hs as u64, d as u64).into()
     };
     // Every dm³ was metered at an Hs between its floor and its ceiling.
     let energy = whole * u128::from(MEGAJOULE) + rest;

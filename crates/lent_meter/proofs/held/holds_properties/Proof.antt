@@ -1,4 +1,4 @@
--- The ranges, and then the index.
+-- The ranges, and then the order and the index.
 use mathlib.Core.Path.{_≡_, sym, _∙_}
 use mathlib.Core.Bool.{true}
 use borrow.Author.Tests.{not-true, not-false}
@@ -27,13 +27,13 @@ returns c =
 
 index-requires : tie.Need-index-requires
 index-requires c κs =
-    let e = c .before .before .before in
+    let e = c .before .before .before .before .before in
     let r = ranges-hold (six e) .only (within e) in
     (r .1 .Hs, r .0 .d, r .1 .d)
 
 returns-2 : tie.Need-returns-2
 returns-2 c =
-    let e = c .before .before .before .before in
+    let e = c .before .before .before .before .before .before in
     rw (c .index .ensures) (properties-hold (six e) (within e))
 
 pub holds-properties-spec : {M : Type 1} → statement M
@@ -42,6 +42,8 @@ holds-properties-spec =
     (tie.spec
     (λ c κs. search needs)
     returns
+    (λ c. search needs)
+    (λ c. search needs)
     (λ c. search needs)
     (λ c. search needs)
     (λ c. search needs)
