@@ -27,7 +27,7 @@ _Static_assert(WORDS == LOONSTOOL_STREAM_WORDS, "each word of a stream has a nam
 /* The highest that each word of a stream can be, and the lowest where it has an analysis. */
 static const uint64_t highest[WORDS] = {1,         25,        20,        1000000000,   250000000,    250000000,
                                         510000000, 390000000, 470000000, 999999999999, 249999999999, 999999999};
-static const uint64_t lowest[WORDS] = {1, 0, 0, 724000000, 4000000, 4000000, 33000000, 27590000, 900000, 0, 0, 0};
+static const uint64_t lowest[WORDS] = {1, 0, 0, 724000000, 16680000, 16680000, 33000000, 27590000, 3880000, 0, 0, 0};
 
 static const uint8_t pairs[6][2] = {{15, 15}, {0, 0}, {15, 0}, {25, 0}, {20, 20}, {25, 20}};
 

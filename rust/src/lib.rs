@@ -94,11 +94,11 @@ impl Properties {
     /// What no property of an accepted record is below.
     pub const FLOORS: Properties = Properties {
         z: 724_000_000,
-        hs: 4_000_000,
-        hi: 4_000_000,
+        hs: 16_680_000,
+        hi: 16_680_000,
         rho: 33_000_000,
         d: 27_590_000,
-        w: 900_000,
+        w: 3_880_000,
     };
 }
 

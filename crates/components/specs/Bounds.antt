@@ -8,7 +8,7 @@ use Rattle.components.specs.Composition.{Composition, leastMethane, frac
 
 -- Hm, superior or inferior, unit 10^-9 kJ/mol
 abbrev pub heatLow : ℕ
-heatLow = 100000000000
+heatLow = 401300000000
 
 abbrev pub heatHigh : ℕ
 heatHigh = 3900000000000

@@ -34,7 +34,7 @@ compressionLow = 724000000
 
 -- 3. The ideal calorific value, and Hs, unit J/m³; the lower bound is of both, and of Hi
 abbrev pub calorificLow : ℕ
-calorificLow = 4000000
+calorificLow = 16680000
 
 abbrev pub idealCalorificHigh : ℕ
 idealCalorificHigh = 175000000
@@ -62,7 +62,7 @@ abbrev pub rootLow : ℕ
 rootLow = 525000000
 
 abbrev pub wobbeLow : ℕ
-wobbeLow = 900000
+wobbeLow = 3880000
 
 -- no property is below its lower bound
 pub record Floored (p : Six) : Type 0 where

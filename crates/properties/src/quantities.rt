@@ -41,7 +41,7 @@ impl CalorificValue {
 
     pub const BOUND: u64 = 250000000;
 
-    pub const FLOOR: u64 = 4000000;
+    pub const FLOOR: u64 = 16680000;
 
     pub fn new(value: u64) -> Self
         requires { ⌜ value ≤ calorificBound ⌝ }
@@ -122,7 +122,7 @@ impl WobbeIndex {
 
     pub const BOUND: u64 = 470000000;
 
-    pub const FLOOR: u64 = 900000;
+    pub const FLOOR: u64 = 3880000;
 
     pub fn new(value: u64) -> Self
         requires { ⌜ value ≤ wobbeBound ⌝ }
