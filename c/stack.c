@@ -1,5 +1,5 @@
 /* Prints how much stack each function takes, on a record of 55 entries, and fails where one takes more than the header says. A call runs on
- * a stack of its own that was filled with a byte before; what is not that byte any more was taken. */
+ * a stack of its own that was filled with a byte before; what is not that byte any more was taken, and so are the BELOW bytes below it. */
 #define _GNU_SOURCE
 #include <stdio.h>
 #include <stdlib.h>
@@ -8,7 +8,7 @@
 
 #include "loonstool.h"
 
-enum { STACK = 65536, BYTES = LOONSTOOL_RECORD_BYTES(LOONSTOOL_LINES) };
+enum { STACK = 65536, BELOW = 128, BYTES = LOONSTOOL_RECORD_BYTES(LOONSTOOL_LINES) };
 
 static _Alignas(16) uint8_t stack[STACK];
 static struct loonstool_properties properties;
@@ -97,8 +97,8 @@ static size_t taken_by(void (*function)(void))
 
 static int above(const char *name, void (*function)(void), size_t most)
 {
-    size_t taken = taken_by(function) - taken_by(nothing);
-    printf("%s: %zu bytes, at most %zu\n", name, taken, most);
+    size_t taken = taken_by(function) - taken_by(nothing) + BELOW;
+    printf("%s: %zu bytes, %d below the stack pointer among them, at most %zu\n", name, taken, BELOW, most);
     if (number != LOONSTOOL_ACCEPTED)
         fprintf(stderr, "stack: %s gave %d\n", name, number);
     return taken > most || number != LOONSTOOL_ACCEPTED;
