@@ -3,7 +3,7 @@
  * The library's call is made in working memory, and its outcome stored from there: the stores of a call come in no order that is promised,
  * and memory behind a bus cannot be lent to it. So each store to the memory that keeps is one of keep_store, in the order of `save`.
  *
- * The counter goes up by one with each accepted call. It does not overflow: with a call each microsecond that takes 584,000 years. */
+ * The counter goes up by one with each copy that is stored. It does not overflow: with one each microsecond that takes 584,000 years. */
 #include "keep.h"
 
 enum { CHECKSUM = KEEP_COPY_WORDS - 1 };
@@ -58,9 +58,18 @@ static void put(size_t which, size_t word, uint64_t value)
         keep_store(place_of(which, word), value);
 }
 
+/* Whether the memory holds the copy. */
+static bool reads_back(size_t which, const union copy *copy)
+{
+    for (size_t i = 0; i < KEEP_COPY_WORDS; i++)
+        if (keep_load(place_of(which, i)) != copy->words[i])
+            return false;
+    return true;
+}
+
 /* Stores the copy over the older one, as the newer. From the first store to the last it holds no meter, for certain: a checksum alone, of
- * words some of which are stored and some not, would be right once in 2^32. */
-static void save(struct keep *keep, union copy *copy)
+ * words some of which are stored and some not, would be right once in 2^32. What a memory did not take is not the newer copy. */
+static uint8_t save(struct keep *keep, union copy *copy)
 {
     size_t older = 1 - keep->newer;
     copy->parts.counter = keep->counter + 1;
@@ -69,13 +78,18 @@ static void save(struct keep *keep, union copy *copy)
     for (size_t i = 0; i < CHECKSUM; i++)
         put(older, i, copy->words[i]);
     put(older, CHECKSUM, copy->parts.checksum);
-    keep->newer = older;
-    keep->counter = copy->parts.counter;
+    if (!reads_back(older, copy))
+        return KEEP_LOST;
+    *keep = (struct keep){older, copy->parts.counter};
+    return LOONSTOOL_ACCEPTED;
 }
 
-/* The newer copy into working memory. */
+/* The newer copy into working memory. It is the one that `keep` names, and the other is not newer: a call that is made from an old struct
+ * would take back what came after it. */
 static bool load_newer(const struct keep *keep, union copy *copy)
 {
+    if (load(1 - keep->newer, copy) && copy->parts.counter > keep->counter)
+        return false;
     return load(keep->newer, copy) && copy->parts.counter == keep->counter;
 }
 
@@ -97,20 +111,26 @@ enum keep_found keep_open(struct keep *keep)
     return found == 0 ? KEEP_NONE : other;
 }
 
-void keep_fresh(struct keep *keep)
+uint8_t keep_fresh(struct keep *keep)
 {
     union copy copy;
+    uint8_t number = LOONSTOOL_ACCEPTED;
     loonstool_meter_fresh(&copy.parts.meter);
-    for (size_t i = 0; i < KEEP_COPIES; i++)
-        save(keep, &copy);
+    for (size_t i = 0; i < KEEP_COPIES && number == LOONSTOOL_ACCEPTED; i++)
+        number = save(keep, &copy);
+    return number;
+}
+
+uint8_t keep_mend(struct keep *keep)
+{
+    union copy copy;
+    return load_newer(keep, &copy) ? save(keep, &copy) : KEEP_LOST;
 }
 
 /* Stores the copy where the call on it was accepted. */
 static uint8_t save_accepted(struct keep *keep, union copy *copy, uint8_t number)
 {
-    if (number == LOONSTOOL_ACCEPTED)
-        save(keep, copy);
-    return number;
+    return number == LOONSTOOL_ACCEPTED ? save(keep, copy) : number;
 }
 
 uint8_t keep_analysis(struct keep *keep, size_t stream, const uint8_t *bytes, size_t length)

@@ -1,10 +1,11 @@
 /* Cuts the power of c/keep.c, and damages the memory that it keeps.
  *
- * For each call of some lists, and for each of its stores, the power fails at that store: none of its bits is stored, or some are, and
+ * For each call of a list, and for each of its stores, the power fails at that store: none of its bits is stored, or some are, and
  * nothing after it. After the restart the meter has to be the one before the call or the one after it, word for word, as the library makes
- * it on a plain meter; so too where the power fails a second time, at each store of the call made again, and in a long list of calls most
- * of which are cut. Then each bit of a copy is flipped, and a whole copy erased: that has to be found, and the other copy
- * taken; with both damaged there is none. */
+ * it on a plain meter, and the counter has to tell which; so too where the power fails a second time, at each store of the call made
+ * again, and in a long list of calls most of which are cut. Then each bit of a copy is flipped, and a whole copy erased: that has to be
+ * found, and the other copy taken; with both damaged there is none, and no call is made. No call is made from an old struct keep, and none
+ * is accepted whose outcome the memory does not take. */
 #include <setjmp.h>
 #include <stdio.h>
 #include <stdlib.h>
@@ -12,14 +13,15 @@
 
 #include "keep.h"
 
-enum { LISTS = 2, CALLS = 200, WALK = 4000, SAMPLES = 5000, COPY_BITS = KEEP_COPY_WORDS * 64, MOST_FAILURES = 20 };
+enum { CALLS = 150, WALK = 4000, SAMPLES = 5000, COPY_BITS = KEEP_COPY_WORDS * 64, MOST_FAILURES = 20 };
 
 #define NEVER SIZE_MAX
 
-/* The memory that keeps, and the store at which the power fails, with the bits of it that are stored nevertheless. */
+/* The memory that keeps; the store at which the power fails, with the bits of it that are stored nevertheless; and a word with a bit that
+ * no store changes. */
 static uint64_t kept[KEEP_WORDS];
-static size_t stores, cut_at = NEVER;
-static uint64_t stored_bits;
+static size_t stores, cut_at = NEVER, stuck_word = NEVER;
+static uint64_t stored_bits, stuck_bit;
 static jmp_buf power_fails;
 
 static unsigned long calls, refusals, cuts, flips, failures;
@@ -32,6 +34,8 @@ uint64_t keep_load(size_t place)
 void keep_store(size_t place, uint64_t word)
 {
     uint64_t bits = stores == cut_at ? stored_bits : UINT64_MAX;
+    if (place == stuck_word)
+        bits &= ~stuck_bit;
     kept[place] = (kept[place] & ~bits) | (word & bits);
     if (stores++ == cut_at)
         longjmp(power_fails, 1);
@@ -49,9 +53,11 @@ static void expect(bool holds, const char *what, size_t at)
 }
 
 /* The next random number (splitmix64), and one below a limit. */
+enum { SEED = 16 };
+
 static uint64_t drawn(void)
 {
-    static uint64_t state = 16;
+    static uint64_t state = SEED;
     uint64_t x = state += 0x9e3779b97f4a7c15;
     x = (x ^ x >> 30) * 0xbf58476d1ce4e5b9;
     x = (x ^ x >> 27) * 0x94d049bb133111eb;
@@ -63,15 +69,15 @@ static uint64_t drawn_below(uint64_t limit)
     return drawn() % limit;
 }
 
-/* A call: a fresh meter, the analysis of a record of `length` bytes, or the metering of a volume. */
+/* A call: a fresh meter, the second copy stored again, the analysis of a record of `length` bytes, or the metering of a volume. */
 struct call {
-    enum { FRESH, ANALYSIS, METERING } kind;
+    enum { FRESH, MEND, ANALYSIS, METERING } kind;
     size_t stream, length;
     uint64_t volume;
     uint8_t record[LOONSTOOL_RECORD_BYTES(1)];
 };
 
-static const struct call fresh = {.kind = FRESH};
+static const struct call fresh = {.kind = FRESH}, mend = {.kind = MEND};
 
 /* Methane alone, some ppm off the whole: most records are accepted, some are refused by 1, 4, 9 and 14. */
 static void draw_record(struct call *call)
@@ -102,9 +108,10 @@ static uint8_t on_kept(struct keep *keep, const struct call *call)
         return keep_analysis(keep, call->stream, call->record, call->length);
     case METERING:
         return keep_metering(keep, call->stream, call->volume);
+    case MEND:
+        return keep_mend(keep);
     default:
-        keep_fresh(keep);
-        return LOONSTOOL_ACCEPTED;
+        return keep_fresh(keep);
     }
 }
 
@@ -116,8 +123,10 @@ static uint8_t on_plain(struct loonstool_meter *meter, const struct call *call)
         return loonstool_meter_analysis(meter, call->stream, call->record, call->length);
     case METERING:
         return loonstool_meter_metering(meter, call->stream, call->volume);
-    default:
+    case FRESH:
         loonstool_meter_fresh(meter);
+        return LOONSTOOL_ACCEPTED;
+    default:
         return LOONSTOOL_ACCEPTED;
     }
 }
@@ -127,12 +136,16 @@ static bool same(const struct loonstool_meter *a, const struct loonstool_meter *
     return memcmp(a, b, sizeof *a) == 0;
 }
 
+/* The counter before the last call, which the firmware has noted, and the one that the last restart found. */
+static uint64_t noted_counter, found_counter;
+
 /* What a restart finds, and the meter. */
 static enum keep_found restart(struct loonstool_meter *meter)
 {
     struct keep keep;
     enum keep_found found = keep_open(&keep);
     memcpy(meter, kept + keep.newer * KEEP_COPY_WORDS + 1, sizeof *meter);
+    found_counter = keep.counter;
     return found;
 }
 
@@ -142,6 +155,7 @@ static size_t cut(const struct call *call, size_t at, uint64_t bits)
     struct keep keep;
     enum keep_found found = keep_open(&keep);
     expect(found != KEEP_NONE || call->kind == FRESH, "a restart finds a meter", at);
+    noted_counter = keep.counter;
     stores = 0;
     cut_at = at;
     stored_bits = bits;
@@ -150,6 +164,12 @@ static size_t cut(const struct call *call, size_t at, uint64_t bits)
     cut_at = NEVER;
     cuts += at != NEVER;
     return stores;
+}
+
+/* The meter that a restart found is the one before the call, or the one after it where the counter is higher than noted. */
+static bool told(const struct loonstool_meter *found, const struct loonstool_meter *before, const struct loonstool_meter *after)
+{
+    return same(found, found_counter > noted_counter ? after : before);
 }
 
 /* The power fails a second time, at each store of the call made again. */
@@ -164,31 +184,46 @@ static void try_second_cuts(const struct call *call, const struct loonstool_mete
         cut(call, at, 0);
         expect(restart(&found) == KEEP_WHOLE, "after two cuts nothing is damaged", at);
         expect(same(&found, at < count ? before : after), "two cuts leave the meter before the call, or after it", at);
+        expect(told(&found, before, after), "the counter tells which, after two cuts", at);
     }
 }
 
-/* The power fails at each store of a call, of which there are `count`, and after the last. */
-static void try_cuts(const struct call *call, const struct loonstool_meter *before, const struct loonstool_meter *after, size_t count)
+/* The power fails within a store of a call. */
+static void try_cut_within(const struct call *call, const struct loonstool_meter *before, const struct loonstool_meter *after, size_t at)
 {
     const uint64_t bits[] = {0xff, UINT32_MAX, ~(uint64_t)UINT32_MAX, 0xffULL << 56, drawn(), drawn(), drawn()};
     uint64_t image[KEEP_WORDS];
     struct loonstool_meter found;
     memcpy(image, kept, sizeof image);
-    for (size_t at = 0; at <= count; at++) {
-        for (size_t i = 0; i < sizeof bits / sizeof *bits; i++) {
-            memcpy(kept, image, sizeof image);
-            cut(call, at, bits[i]);
-            expect(restart(&found) != KEEP_NONE, "a cut within a store leaves a meter", at);
-            expect(same(&found, before) || same(&found, after), "a cut within a store leaves the meter before the call, or after it", at);
-        }
+    for (size_t i = 0; i < sizeof bits / sizeof *bits; i++) {
+        cut(call, at, bits[i]);
+        expect(restart(&found) != KEEP_NONE, "a cut within a store leaves a meter", at);
+        expect(told(&found, before, after), "a cut within a store leaves the meter before the call, or after it", at);
         memcpy(kept, image, sizeof image);
+    }
+}
+
+/* The power fails at each store of a call, of which there are `count`, and after the last. Both copies get the outcome of FRESH, and the
+ * first of them decides. */
+static void try_cuts(const struct call *call, const struct loonstool_meter *before, const struct loonstool_meter *after, size_t count)
+{
+    uint64_t image[KEEP_WORDS];
+    struct loonstool_meter found;
+    bool made = false;
+    memcpy(image, kept, sizeof image);
+    for (size_t at = 0; at <= count; at++) {
+        try_cut_within(call, before, after, at);
         cut(call, at, 0);
         expect(restart(&found) == KEEP_WHOLE, "after a cut nothing is damaged", at);
-        expect(same(&found, at < count ? before : after), "a cut leaves the meter before the call, or after it", at);
+        expect(told(&found, before, after), "a cut leaves the meter before the call, or after it", at);
+        made |= found_counter > noted_counter;
+        expect(made == (found_counter > noted_counter), "once the call is made, a later cut does not undo it", at);
+        expect(made == (at == count) || call->kind == FRESH, "the last store makes the call", at);
         if (call->kind != FRESH && at < count)
             try_second_cuts(call, before, after);
+        memcpy(kept, image, sizeof image);
     }
-    memcpy(kept, image, sizeof image);
+    expect(made, "a call that no cut falls into is made", count);
 }
 
 /* Every stream's readings are those of a meter. */
@@ -235,21 +270,25 @@ static void flip(size_t copy, size_t bit)
     kept[copy * KEEP_COPY_WORDS + bit / 64] ^= (uint64_t)1 << bit % 64;
 }
 
-/* Both copies are damaged: no call is made on the one that keep_open found before, a restart finds none, and nothing is stored. */
-static void expect_none(struct keep *keep, const struct call *call, size_t bit)
+/* No call is made: nothing is stored, and what is lent for an answer is as it was. */
+static void expect_lost(struct keep *keep, const char *what, size_t at)
 {
-    uint64_t image[KEEP_WORDS];
-    struct loonstool_meter found;
+    static const uint8_t methane[] = {'G', 'C', 'R', 1, 0, 15, 15, 1, 1, 0x40, 0x42, 0x0f, 0};
+    uint64_t image[KEEP_WORDS], mean = 16;
+    struct loonstool_totals totals = {16, 16, 16};
     memcpy(image, kept, sizeof image);
-    expect(on_kept(keep, call) == KEEP_LOST, "a call on a damaged copy", bit);
-    expect(restart(&found) == KEEP_NONE, "both copies damaged", bit);
-    expect(memcmp(kept, image, sizeof image) == 0, "nothing is stored where the meter is lost", bit);
+    expect(keep_analysis(keep, 0, methane, sizeof methane) == KEEP_LOST, what, at);
+    expect(keep_metering(keep, 0, 0) == KEEP_LOST, what, at);
+    expect(keep_mend(keep) == KEEP_LOST, what, at);
+    expect(keep_totals(keep, 0, &totals) == KEEP_LOST && totals.volume == 16 && totals.energy_mj == 16 && totals.energy_rest == 16, what, at);
+    expect(keep_mean(keep, 0, &mean) == KEEP_LOST && mean == 16, what, at);
+    expect(memcmp(kept, image, sizeof image) == 0, what, at);
 }
 
-/* Each bit of a copy flips, alone and with one of the other copy: the other one is taken, or none. */
+/* Each bit of a copy flips, alone and with one of the other copy: the other one is taken, or none. With one bit of each word, calls are made
+ * then. */
 static void try_flips(const struct loonstool_meter *newer, const struct loonstool_meter *older)
 {
-    const struct call call = {.kind = METERING};
     struct keep keep;
     struct loonstool_meter found;
     expect(keep_open(&keep) == KEEP_WHOLE, "nothing is damaged", 0);
@@ -259,7 +298,9 @@ static void try_flips(const struct loonstool_meter *newer, const struct loonstoo
         flip(keep.newer, bit);
         expect(restart(&found) == KEEP_DAMAGED && same(&found, older), "a flipped bit of the newer copy", bit);
         flip(other, other_bit);
-        expect_none(&keep, &call, bit);
+        if (bit % 64 == bit / 64 % 64)
+            expect_lost(&keep, "a call on a damaged copy", bit);
+        expect(restart(&found) == KEEP_NONE, "both copies damaged", bit);
         flip(other, other_bit);
         flip(keep.newer, bit);
         flip(other, bit);
@@ -316,7 +357,8 @@ static uint64_t crc_of(const uint64_t *copy)
     return ~crc;
 }
 
-/* A newer copy with the right checksum, whose words hold no meter, is not taken; nor does a call take another copy than keep_open found. */
+/* A newer copy with the right checksum, whose words hold no meter, is not taken; nor does a call take another copy than keep_open found, or
+ * an older one than there is. */
 static void try_wrong_copies(const struct loonstool_meter *newer, const struct loonstool_meter *older)
 {
     struct keep keep;
@@ -330,8 +372,62 @@ static void try_wrong_copies(const struct loonstool_meter *newer, const struct l
     copy[1] = first;
     copy[KEEP_COPY_WORDS - 1] = crc_of(copy);
     expect(restart(&found) == KEEP_WHOLE && same(&found, newer), "the checksum is the CRC-32", 0);
+    struct keep old = keep;
     keep.newer = 1 - keep.newer;
-    expect(keep_metering(&keep, 0, 0) == KEEP_LOST, "a call on the older copy", 0);
+    expect_lost(&keep, "a call on the older copy", 0);
+    uint64_t image[KEEP_WORDS];
+    memcpy(image, kept, sizeof image);
+    keep = old;
+    expect(keep_mend(&keep) == LOONSTOOL_ACCEPTED, "the newer copy stored again", 0);
+    expect_lost(&old, "a call from an old struct keep", 0);
+    memcpy(kept, image, sizeof image);
+}
+
+/* A bit of the copy to be stored sticks: the call is accepted where it sticks at the right value, and not made where it does not. */
+static void try_stuck(const struct loonstool_meter *newer)
+{
+    uint64_t image[KEEP_WORDS];
+    struct keep keep;
+    struct loonstool_meter found, after = *newer;
+    unsigned refused = 0;
+    memcpy(image, kept, sizeof image);
+    for (size_t word = 0; word < KEEP_COPY_WORDS; word++) {
+        expect(keep_open(&keep) == KEEP_WHOLE, "nothing is damaged", word);
+        stuck_word = (1 - keep.newer) * KEEP_COPY_WORDS + word;
+        stuck_bit = (uint64_t)1 << drawn_below(64);
+        kept[stuck_word] ^= stuck_bit;
+        uint8_t number = keep_mend(&keep);
+        refused += number == KEEP_LOST;
+        expect(number == LOONSTOOL_ACCEPTED || number == KEEP_LOST, "a bit that sticks", word);
+        expect(restart(&found) == (number == KEEP_LOST ? KEEP_DAMAGED : KEEP_WHOLE) && same(&found, &after), "a bit that sticks", word);
+        stuck_word = NEVER;
+        memcpy(kept, image, sizeof image);
+    }
+    expect(refused > KEEP_COPY_WORDS / 2, "a bit that sticks is found", refused);
+}
+
+/* With a copy damaged, keep_mend makes both whole, and a cut in it leaves the meter. */
+static void try_mend(const struct loonstool_meter *newer)
+{
+    uint64_t image[KEEP_WORDS];
+    struct keep keep;
+    struct loonstool_meter found;
+    expect(keep_open(&keep) == KEEP_WHOLE, "nothing is damaged", 0);
+    flip(1 - keep.newer, 64);
+    memcpy(image, kept, sizeof image);
+    size_t count = cut(&mend, NEVER, 0);
+    for (size_t at = 0; at <= count; at++) {
+        memcpy(kept, image, sizeof image);
+        cut(&mend, at, 0);
+        enum keep_found left = restart(&found);
+        expect(left == (at == 0 ? KEEP_DAMAGED : KEEP_WHOLE) && same(&found, newer), "a cut of keep_mend", at);
+    }
+    expect(keep_open(&keep) == KEEP_WHOLE, "both copies after keep_mend", 0);
+    for (size_t copy = 0; copy < KEEP_COPIES; copy++) {
+        flip(copy, 64);
+        expect(restart(&found) == KEEP_DAMAGED && same(&found, newer), "both copies after keep_mend", copy);
+        flip(copy, 64);
+    }
 }
 
 /* With the newer copy damaged, the calls go on from the older one, and after the first that is accepted both are whole. */
@@ -364,7 +460,7 @@ static void try_walk(struct loonstool_meter *meter)
         size_t count = cut(&call, drawn_below(12), bits);
         expect(number == LOONSTOOL_ACCEPTED || count == 0, "a refused call stores nothing", i);
         expect(restart(&found) != KEEP_NONE, "cuts in a row leave a meter", i);
-        expect(same(&found, meter) || same(&found, &after), "cuts in a row leave the meter before the last call, or after it", i);
+        expect(told(&found, meter, &after), "cuts in a row leave the meter before the last call, or after it", i);
         *meter = found;
     }
 }
@@ -395,21 +491,22 @@ int main(void)
     try_unused(0xa5a5a5a5a5a5a5a5);
     try_unused(0);
     loonstool_meter_fresh(&newer);
-    for (size_t list = 0; list < LISTS; list++) {
-        try_call(&fresh, &newer, &older);
-        for (size_t i = 0; i < CALLS; i++) {
-            struct call call = draw_call();
-            try_call(&call, &newer, &older);
-        }
-        try_flips(&newer, &older);
-        try_erased(&newer, &older);
-        try_several_flips(&older);
-        try_wrong_copies(&newer, &older);
-        try_going_on(&newer, &older);
-        try_walk(&newer);
-        cut(&fresh, NEVER, 0);
-        loonstool_meter_fresh(&newer);
+    try_call(&fresh, &newer, &older);
+    for (size_t i = 0; i < CALLS; i++) {
+        struct call call = draw_call();
+        try_call(&call, &newer, &older);
     }
-    printf("%lu calls, %lu of them refused, %lu cuts, %lu flipped bits, %lu failed\n", calls, refusals, cuts, flips, failures);
+    try_flips(&newer, &older);
+    try_erased(&newer, &older);
+    try_several_flips(&older);
+    try_wrong_copies(&newer, &older);
+    try_stuck(&newer);
+    try_going_on(&newer, &older);
+    try_mend(&newer);
+    try_walk(&newer);
+    cut(&mend, NEVER, 0);
+    try_call(&fresh, &newer, &older);
+    try_erased(&newer, &older);
+    printf("seed %d: %lu calls, %lu of them refused, %lu cuts, %lu flipped bits, %lu failed\n", SEED, calls, refusals, cuts, flips, failures);
     return failures != 0;
 }
