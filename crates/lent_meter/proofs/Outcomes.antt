@@ -7,32 +7,25 @@ use native.Mathlib.Nat.{not-suc-le-zero, le-of-suc-le-suc}
 use native.Mathlib.Omega.{arith}
 use lib.Dec.{ltb}
 use lib.ListN.{length, getD, set}
-use lib.Seq.{set-getD}
-use Rattle.records.specs.Order.{Order, firstOf, otherwise, decided, mapped}
-use Rattle.records.specs.Answers.{numberOf, Returns}
-use Rattle.records.proofs.OrderLaws.{beside, mapped-decided}
+use lib.Seq.{set-getD, getD-set-other}
+use Rattle.records.specs.Order.{Order, firstOf, decided, mapped}
+use Rattle.records.specs.Answers.{Returns}
+use Rattle.records.proofs.OrderLaws.{refuses, mapped-decided}
+use Rattle.records.proofs.Returned.{refusal, acceptance}
 use Rattle.meter.specs.declared.Stream.{Stream}
 use Rattle.meter.specs.declared.Meter.{Meter}
 use Rattle.meter.specs.State.{lastStream, Sound, freshStream, streamAt, withStream}
 use Rattle.meter.proofs.Orders.{not-above}
 use Rattle.lent_meter.specs.Words.{packedStream, packed}
-use Rattle.lent_meter.specs.Lent.{Lent, LentRow}
-
-number-is : {A : Type 0} (answer : A) (n : ℕ) → n ≡ numberOf (decided n answer)
-number-is answer zero = refl
-number-is answer (suc n) = refl
+use Rattle.lent_meter.specs.Lent.{LentRow, Lent, Leaves, LeavesRow}
 
 -- from the number
 module _ {A B : Type 0} (f : A → B) (answer : A) (before : B) {n number : ℕ} {after : B} (is : number ≡ n) where
-  returned : after ≡ otherwise before (decided n (f answer)) → Returns (mapped f (decided n answer)) before number after
-  returned e =
-      rw (mapped-decided f n answer) (record { number-is = is ∙ number-is (f answer) n; after-is = e })
-
   pub number-refuses : (number ≡ 0 → ⊥) → after ≡ before → Returns (mapped f (decided n answer)) before number after
-  number-refuses h e = returned (e ∙ beside n (f answer) before (λ z. h (is ∙ z)))
+  number-refuses h e = refusal before (sym (mapped-decided f n answer ∙ refuses n (f answer) (λ z. h (is ∙ z)))) is e
 
   pub number-accepts : number ≡ 0 → after ≡ f answer → Returns (mapped f (decided n answer)) before number after
-  number-accepts z e = returned (e ∙ ap (λ (i : ℕ). otherwise before (decided i (f answer))) (sym z ∙ is))
+  number-accepts z e = acceptance before (sym (mapped-decided f n answer ∙ ap (λ (i : ℕ). decided i (f answer)) (sym is ∙ z))) z e
 
 -- the row of a stream, and the words with another row
 row-at : (l : List Stream) (k : ℕ) → k < length l → getD (map packedStream l) k [] ≡ packedStream (getD l k freshStream)
@@ -46,8 +39,8 @@ with-row (x ∷ l) zero s = refl
 with-row (x ∷ l) (suc k) s = ap (λ (r : List (List ℕ)). packedStream x ∷ r) (with-row l k s)
 
 module _ {words : List (List ℕ)} (m : Meter) (sound : Sound m) (holds : words ≡ packed m) (k : ℕ) where
-  pub row-holds : k ≤ lastStream → getD words k [] ≡ packedStream (streamAt m k)
-  row-holds low = ap (λ (w : List (List ℕ)). getD w k []) holds ∙ row-at (m .streams) k (omega (arith, sound .count))
+  pub row-is : k ≤ lastStream → getD words k [] ≡ packedStream (streamAt m k)
+  row-is low = ap (λ (w : List (List ℕ)). getD w k []) holds ∙ row-at (m .streams) k (omega (arith, sound .count))
 
   with-number : (new : Stream) (n : ℕ) {number : ℕ} {row : List ℕ} → Returns (mapped packedStream (decided n new)) (getD words k []) number row →
       Returns (mapped packed (decided n (withStream m k new))) words number (set words k row)
@@ -66,6 +59,14 @@ module _ {words : List (List ℕ)} (m : Meter) (sound : Sound m) (holds : words 
       subst (λ (n : ℕ). Returns (mapped packed (decided n (withStream m k new))) words number (set words k row)) (not-above rest low)
       (with-number new (firstOf rest) r)
 
+-- what a call leaves of the words, where 13 refused it, and from what the row's call left of the row
+pub left-alone : (k : ℕ) (words : List (List ℕ)) (number : ℕ) → Leaves k words number words
+left-alone k words number = record { others = λ j other. refl; refusal = λ h. refl }
+
+pub leaves-others : (k : ℕ) (words : List (List ℕ)) {number : ℕ} {row : List ℕ} → LeavesRow (getD words k []) number row → Leaves k words number (set words k row)
+leaves-others k words {row = row} left =
+    record { others = λ j other. getD-set-other words k j row [] other; refusal = λ h. ap (set words k) (left h) ∙ set-getD words k [] }
+
 pub lent-row : {words : List (List ℕ)} (k : ℕ) → Lent words → k ≤ lastStream → LentRow (getD words k [])
 lent-row k l low =
-    record { stream = streamAt (l .meter) k; sound = l .sound .each k low; holds = row-holds (l .meter) (l .sound) (l .holds) k low }
+    record { stream = streamAt (l .meter) k; sound = l .sound .each k low; holds = row-is (l .meter) (l .sound) (l .holds) k low }

@@ -1,6 +1,6 @@
 -- The tests of a pair, of properties, and of a register at a volume.
 use mathlib.Core.Path.{_≡_, refl, sym, ap, _∙_}
-use mathlib.Core.Bool.{Bool, true, false, _&&_, _||_}
+use mathlib.Core.Bool.{Bool, true, false, _&&_, _||_, and-false}
 use Prim.Native.Nat.{ℕ, _+_, _*_, _/_, _%_, _≤_, _<_}
 use native.Mathlib.Nat.{mul-le-mul-right, div-add-mod', mod-lt}
 use native.Mathlib.Omega.{arith}
@@ -20,10 +20,6 @@ use Rattle.lent_meter.specs.Check.{Tells, RegisterUnit, between, withinR
 use Rattle.lent_meter.proofs.Telling.{tells-true, tells-false}
 
 -- a number above 255 is in no permitted pair
-and-false : (x : Bool) → (x && false) ≡ false
-and-false true = refl
-and-false false = refl
-
 pub large-combustion : (c m : ℕ) → 255 < c → false ≡ permitted c m
 large-combustion c m h = rw (ne-eqb c 15 (λ e. omega arith), ne-eqb c 0 (λ e. omega arith), ne-eqb c 25 (λ e. omega arith), ne-eqb c 20 (λ e. omega arith))
 

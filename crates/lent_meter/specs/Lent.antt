@@ -30,6 +30,11 @@ pub record Lent (words : List (List ℕ)) : Type 0 where
 abbrev pub OnWords : (Meter → Outcome Meter) → List (List ℕ) → ℕ → List (List ℕ) → Type 0
 OnWords call before number after = (m : Meter) → Sound m → before ≡ packed m → Returns (mapped packed (call m)) before number after
 
+-- and whatever the words are: the rows of the other streams are as they were, and after a refusal all of them
+pub record Leaves (k : ℕ) (before : List (List ℕ)) (number : ℕ) (after : List (List ℕ)) : Type 0 where
+  pub others : (j : ℕ) → (j ≡ k → ⊥) → getD after j [] ≡ getD before j []
+  pub refusal : (number ≡ 0 → ⊥) → after ≡ before
+
 -- a reading: the number, and the memory that is lent for the answer
 abbrev pub OnReading : {A B : Type 0} → (A → B) → (Meter → Outcome A) → List (List ℕ) → B → ℕ → B → Type 0
 OnReading shown call words before number after = (m : Meter) → Sound m → words ≡ packed m → Returns (mapped shown (call m)) before number after
@@ -38,8 +43,12 @@ OnReading shown call words before number after = (m : Meter) → Sound m → wor
 abbrev pub OnRow : (Stream → Outcome Stream) → List ℕ → ℕ → List ℕ → Type 0
 OnRow call before number after = (s : Stream) → SoundStream s → before ≡ packedStream s → Returns (mapped packedStream (call s)) before number after
 
-abbrev pub rowAnalysis : Stream → List ℕ → Outcome Stream
-rowAnalysis s bs = decided (firstOf (streamAnalysisOrder bs s)) (analysed s bs)
+-- a refusal leaves a row, whatever its words are
+abbrev pub LeavesRow : List ℕ → ℕ → List ℕ → Type 0
+LeavesRow before number after = (number ≡ 0 → ⊥) → after ≡ before
 
-abbrev pub rowMetering : Stream → ℕ → Outcome Stream
-rowMetering s v = decided (firstOf (streamMeteringOrder v s)) (metered s v)
+abbrev pub streamAnalysis : Stream → List ℕ → Outcome Stream
+streamAnalysis s bs = decided (firstOf (streamAnalysisOrder bs s)) (analysed s bs)
+
+abbrev pub streamMetering : Stream → ℕ → Outcome Stream
+streamMetering s v = decided (firstOf (streamMeteringOrder v s)) (metered s v)

@@ -13,7 +13,7 @@ ghost use Rattle.meter.specs.declared.Stream.{Stream};
 ghost use Rattle.meter.specs.State.{freshMeter};
 ghost use Rattle.meter.specs.Calls.{analysisOf, meteringOf, totalsOf, meanOf};
 ghost use Rattle.lent_meter.specs.Words.{packed, packedTotals};
-ghost use Rattle.lent_meter.specs.Lent.{Lent, LentRow, OnWords, OnReading, OnRow, rowAnalysis, rowMetering};
+ghost use Rattle.lent_meter.specs.Lent.{Lent, LentRow, OnWords, Leaves, OnReading, OnRow, LeavesRow, streamAnalysis, streamMetering};
 ghost use Rattle.lent_meter.specs.Check.{Tells};
 
 // Streams of a meter.
@@ -44,7 +44,8 @@ fn wide(byte: u8) -> u64
 
 // The record's number, 14, or the row with the record's properties in force.
 fn analysis_row(row: &mut Row, bytes: &[u8]) -> u8
-    ensures { λ r. ⌜ OnRow (λ (s : Stream). rowAnalysis s (now (bytes .entry))) (now (row .entry)) r (now (row .exit)) ⌝ }
+    ensures { λ r. ⌜ OnRow (λ (s : Stream). streamAnalysis s (now (bytes .entry))) (now (row .entry)) r (now (row .exit)) ⌝ }
+    ensures { λ r. ⌜ LeavesRow (now (row .entry)) r (now (row .exit)) ⌝ }
 {
     let refusal = records::refusal(bytes);
     if refusal != 0 {
@@ -64,6 +65,7 @@ fn analysis_row(row: &mut Row, bytes: &[u8]) -> u8
 // The properties of a record come into force on a stream.
 pub fn analysis(words: &mut Words, stream: usize, bytes: &[u8]) -> u8
     ensures { λ r. ⌜ OnWords (λ (m : Meter). analysisOf m stream (now (bytes .entry))) (now (words .entry)) r (now (words .exit)) ⌝ }
+    ensures { λ r. ⌜ Leaves stream (now (words .entry)) r (now (words .exit)) ⌝ }
 {
     if meter::LAST_STREAM < stream {
         return 13;
@@ -74,7 +76,8 @@ pub fn analysis(words: &mut Words, stream: usize, bytes: &[u8]) -> u8
 // 15, 16, 17, or the row with the volume added.
 fn metering_row(row: &mut Row, volume: u64) -> u8
     requires { ⌜ LentRow (now row) ⌝ }
-    ensures { λ r. ⌜ OnRow (λ (s : Stream). rowMetering s volume) (now (row .entry)) r (now (row .exit)) ⌝ }
+    ensures { λ r. ⌜ OnRow (λ (s : Stream). streamMetering s volume) (now (row .entry)) r (now (row .exit)) ⌝ }
+    ensures { λ r. ⌜ LeavesRow (now (row .entry)) r (now (row .exit)) ⌝ }
 {
     if meter::MOST_VOLUME < volume {
         return 15;
@@ -95,6 +98,7 @@ fn metering_row(row: &mut Row, volume: u64) -> u8
 pub fn metering(words: &mut Words, stream: usize, volume: u64) -> u8
     requires { ⌜ Lent (now words) ⌝ }
     ensures { λ r. ⌜ OnWords (λ (m : Meter). meteringOf m stream volume) (now (words .entry)) r (now (words .exit)) ⌝ }
+    ensures { λ r. ⌜ Leaves stream (now (words .entry)) r (now (words .exit)) ⌝ }
 {
     if meter::LAST_STREAM < stream {
         return 13;

@@ -17,7 +17,7 @@ ghost use Rattle.meter.specs.declared.Meter.{Meter};
 ghost use Rattle.meter.specs.State.{freshMeter};
 ghost use Rattle.meter.specs.Calls.{analysisOf, meteringOf, totalsOf, meanOf};
 ghost use Rattle.lent_meter.specs.Words.{packed, packedTotals};
-ghost use Rattle.lent_meter.specs.Lent.{Lent, OnWords, OnReading};
+ghost use Rattle.lent_meter.specs.Lent.{Lent, OnWords, Leaves, OnReading};
 ghost use Rattle.lent_meter.specs.Check.{Tells};
 ghost use Rattle.loonstool.specs.Exports.{inOrder, analysis};
 
@@ -41,6 +41,7 @@ pub extern "C" fn loonstool_meter_check(meter: &Words) -> bool
 #[no_mangle]
 pub extern "C" fn loonstool_meter_analysis(meter: &mut Words, stream: usize, bytes: &[u8]) -> u8
     ensures { λ r. ⌜ OnWords (λ (m : Meter). analysisOf m stream (now (bytes .entry))) (now (meter .entry)) r (now (meter .exit)) ⌝ }
+    ensures { λ r. ⌜ Leaves stream (now (meter .entry)) r (now (meter .exit)) ⌝ }
 {
     lent_meter::analysis(meter, stream, bytes)
 }
@@ -50,6 +51,7 @@ pub extern "C" fn loonstool_meter_analysis(meter: &mut Words, stream: usize, byt
 pub extern "C" fn loonstool_meter_metering(meter: &mut Words, stream: usize, volume: u64) -> u8
     requires { ⌜ Lent (now meter) ⌝ }
     ensures { λ r. ⌜ OnWords (λ (m : Meter). meteringOf m stream volume) (now (meter .entry)) r (now (meter .exit)) ⌝ }
+    ensures { λ r. ⌜ Leaves stream (now (meter .entry)) r (now (meter .exit)) ⌝ }
 {
     lent_meter::metering(meter, stream, volume)
 }

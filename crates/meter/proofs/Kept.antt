@@ -1,6 +1,7 @@
 -- What is shown of every meter.
 use mathlib.Core.Path.{_≡_, refl, sym, subst, _∙_}
 use mathlib.Core.Bool.{Bool, true, false, cond}
+use mathlib.Core.List.{List}
 use Prim.Native.Nat.{ℕ, zero, suc, _+_, _≤_}
 use native.Mathlib.Omega.{arith}
 use borrow.Author.Tests.{le-ltb, ltb-false, eqb-false}
@@ -10,8 +11,8 @@ use lib.Seq.{getD-set-other}
 use Rattle.records.specs.declared.Verdict.{Verdict}
 use Rattle.records.specs.Order.{accepted, firstOf, decided}
 use Rattle.records.specs.Format.{contentsIn}
-use Rattle.records.specs.Answers.{Gives}
-use Rattle.records.proofs.OrderLaws.{unmet, decided-accepted}
+use Rattle.records.specs.Answers.{Gives, verdictOf}
+use Rattle.records.proofs.OrderLaws.{unmet, decided-accepted, gives}
 use Rattle.records.proofs.RoundTrips.{accepted-head}
 use Rattle.records.proofs.Accepted.{acceptable}
 use Rattle.properties.specs.Bounds.{calorificLow}
@@ -24,7 +25,7 @@ use Rattle.meter.specs.declared.Stream.{Stream}
 use Rattle.meter.specs.declared.Meter.{Meter}
 use Rattle.meter.specs.State.{lastStream, mostTotal, SoundRegister, SoundTotals, SoundGas, SoundAnalysis, SoundStream, Sound, freshStream, streamAt, withStream, perMJ}
 use Rattle.meter.specs.Conditions.{analysisOrder, meteringOrder, meanOrder}
-use Rattle.meter.specs.Calls.{analysed, withVolume, metered, meanIn, meanReading}
+use Rattle.meter.specs.Calls.{analysed, withVolume, metered, afterAnalysis, afterMetering, meanIn, meanReading}
 use Rattle.meter.specs.Kept.{FreshIsSound, AnalysisKeeps, MeteringKeeps, AnalysisLeavesOthers, MeteringLeavesOthers, ZeroIsAccepted, NoMeanAboveCeiling}
 use Rattle.meter.proofs.Orders.{clear-analysis, clear-metering}
 use Rattle.meter.proofs.Registers.{sound-booked}
@@ -93,6 +94,17 @@ metering-keeps m k w v after gives h =
   where
     s : Stream
     s = streamAt m k
+
+-- the meter after a call, accepted or refused, is sound
+pub sound-after-analysis : (k : ℕ) (bs : List ℕ) (m : Meter) → Sound m → Sound (afterAnalysis m k bs)
+sound-after-analysis k bs m =
+    let n = firstOf (analysisOrder k bs (streamAt m k)) in
+    analysis-keeps m k bs (verdictOf n) (afterAnalysis m k bs) (gives n (withStream m k (analysed (streamAt m k) bs)) m _ _ refl refl)
+
+pub sound-after-metering : (k v : ℕ) (m : Meter) → Sound m → Sound (afterMetering m k v)
+sound-after-metering k v m =
+    let n = firstOf (meteringOrder k v (streamAt m k)) in
+    metering-keeps m k v (verdictOf n) (afterMetering m k v) (gives n (withStream m k (metered (streamAt m k) v)) m _ _ refl refl)
 
 -- every other stream after a call that replaces one
 pub others-stay : (n : ℕ) (m : Meter) (k : ℕ) (s : Stream) (v : Verdict) (after : Meter) → Gives (decided n (withStream m k s)) m v after →

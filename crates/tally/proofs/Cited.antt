@@ -7,6 +7,7 @@ use Rattle.meter.proofs.metering as metering
 use Rattle.meter.proofs.totals as totals
 use Rattle.meter.proofs.mean as mean
 use Rattle.loonstool.proofs.loonstool_meter_fresh as lent-fresh
+use Rattle.loonstool.proofs.loonstool_meter_check as lent-check
 use Rattle.loonstool.proofs.loonstool_meter_analysis as lent-analysis
 use Rattle.loonstool.proofs.loonstool_meter_metering as lent-metering
 use Rattle.loonstool.proofs.loonstool_meter_totals as lent-totals
@@ -47,6 +48,12 @@ lent-fresh-proved = lent-fresh.Met.met
 
 pub lent-fresh-read : KnownAs 1 lent-fresh.Kinds.ps lent-fresh.Kinds.r lent-fresh.Reads.Ghost lent-fresh.Reads.requires lent-fresh.Reads.ensures lent-fresh.Reads.Asked lent-fresh.Reads.Learnt
 lent-fresh-read = lent-fresh.Reads.known
+
+pub lent-check-proved : {M : Type 1} → lent-check.Statement.statement M
+lent-check-proved = lent-check.Met.met
+
+pub lent-check-read : KnownAs 1 lent-check.Kinds.ps lent-check.Kinds.r lent-check.Reads.Ghost lent-check.Reads.requires lent-check.Reads.ensures lent-check.Reads.Asked lent-check.Reads.Learnt
+lent-check-read = lent-check.Reads.known
 
 pub lent-analysis-proved : {M : Type 1} → lent-analysis.Statement.statement M
 lent-analysis-proved = lent-analysis.Met.met

@@ -2,13 +2,15 @@
 use mathlib.Core.Path.{_≡_, refl, sym, subst}
 use mathlib.Core.List.{List, [], _∷_}
 use Prim.Native.Nat.{ℕ}
-use Rattle.records.specs.Order.{Outcome, otherwise, mapped}
+use Rattle.records.specs.Order.{Outcome, firstOf, otherwise, mapped}
 use Rattle.records.specs.Answers.{numberOf, Returns}
 use Rattle.meter.specs.declared.Meter.{Meter}
-use Rattle.meter.specs.State.{Sound, freshMeter}
-use Rattle.meter.specs.Calls.{analysisOf, meteringOf, totalsOf, meanOf, afterAnalysis, afterMetering}
+use Rattle.meter.specs.State.{Sound, freshMeter, streamAt}
+use Rattle.meter.specs.Conditions.{analysisOrder, meteringOrder}
+use Rattle.meter.specs.Calls.{analysed, metered, analysisOf, meteringOf, totalsOf, meanOf, afterAnalysis, afterMetering}
 use Rattle.lent_meter.specs.Words.{packedTotals, packed}
-use Rattle.lent_meter.proofs.Kept.{packed-otherwise, sound-after-analysis, sound-after-metering, words-tell}
+use Rattle.meter.proofs.Kept.{sound-after-analysis, sound-after-metering}
+use Rattle.lent_meter.proofs.Kept.{packed-otherwise, leaves-packed, packed-is-injective}
 use Rattle.tally.specs.Tally.{Ask, analysis, metering, totals, mean, Call, on, Answer}
 use Rattle.tally.proofs.Exists.{to}
 use Rattle.tally.specs.LentRun.{Words, LentStep, by-analysis, by-metering, by-totals, by-mean, ended, after, HasLentRun, EveryListHasLentRun, HasFreshWords}
@@ -18,7 +20,7 @@ has-fresh-words = record { words = to (packed freshMeter); gave = λ κs old p. 
 
 -- of the one meter that words hold, said of each
 of-each : (m : Meter) (P : Meter → Type 0) → P m → (n : Meter) → Sound n → packed m ≡ packed n → P n
-of-each m P p n sound e = subst P (words-tell m n e) p
+of-each m P p n sound e = subst P (packed-is-injective m n e) p
 
 record HasStep (m : Meter) (c : Call) : Type 0 where
   pub answer : Answer
@@ -46,14 +48,14 @@ has-step m sound k (analysis bs) =
       answer = _;
       meter = afterAnalysis m k bs;
       sound = sound-after-analysis k bs m sound;
-      step = by-analysis ([], ([], tt)) (to (packed m)) k (to bs) _ (to (packed (afterAnalysis m k bs))) (λ p. changes m (λ (x : Meter). analysisOf x k bs));
+      step = by-analysis ([], ([], tt)) (to (packed m)) k (to bs) _ (to (packed (afterAnalysis m k bs))) (λ p. (changes m (λ (x : Meter). analysisOf x k bs), leaves-packed (firstOf (analysisOrder k bs (streamAt m k))) m k (analysed (streamAt m k) bs)));
     }
 has-step m sound k (metering v) =
     record {
       answer = _;
       meter = afterMetering m k v;
       sound = sound-after-metering k v m sound;
-      step = by-metering ([], tt) (to (packed m)) k v _ (to (packed (afterMetering m k v))) (λ p. changes m (λ (x : Meter). meteringOf x k v));
+      step = by-metering ([], tt) (to (packed m)) k v _ (to (packed (afterMetering m k v))) (λ p. (changes m (λ (x : Meter). meteringOf x k v), leaves-packed (firstOf (meteringOrder k v (streamAt m k))) m k (metered (streamAt m k) v)));
     }
 has-step m sound k totals =
     record {

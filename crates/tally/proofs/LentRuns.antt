@@ -9,14 +9,14 @@ use Rattle.meter.specs.declared.Meter.{Meter}
 use Rattle.meter.specs.State.{Sound, freshMeter, streamAt, withStream}
 use Rattle.meter.specs.Conditions.{analysisOrder, meteringOrder, totalsOrder, meanOrder}
 use Rattle.meter.specs.Calls.{analysed, metered, analysisOf, meteringOf, totalsOf, meanIn, meanOf}
-use Rattle.meter.proofs.Kept.{fresh-is-sound}
+use Rattle.meter.proofs.Kept.{fresh-is-sound, sound-after-analysis, sound-after-metering}
 use Rattle.lent_meter.specs.Words.{packedTotals, packed}
 use Rattle.lent_meter.specs.Lent.{Lent}
-use Rattle.lent_meter.proofs.Kept.{held-after, sound-after-analysis, sound-after-metering}
+use Rattle.lent_meter.proofs.Kept.{held-after}
 use Rattle.tally.specs.Tally.{Call, Given, done, meanIs, Answer}
 use Rattle.tally.specs.Run.{changeAnswer, totalsGiven, Step, by-analysis, by-metering, by-totals, by-mean, Run, ended, after}
 use Rattle.tally.specs.LentRun as lent
-use Rattle.tally.specs.LentRun.{Words, totalsPut, LentStep, LentRun, LentRequired, LentClaim}
+use Rattle.tally.specs.LentRun.{Words, totalsPut, LentStep, LentRun, LentRequired, CheckDecides, LentClaim}
 use Rattle.tally.proofs.Demand.{demand3}
 use Rattle.tally.proofs.Exists.{totals-with, totals-means, mean-with, mean-means, changed, changed-gives}
 
@@ -52,14 +52,14 @@ stepped : {w w₁ : Words} {cs : List Call} {rs : List Answer} (m : Meter) → H
 stepped m h (lent.by-analysis κs w k b n w₁ gave) =
     let i = firstOf (analysisOrder k (now b) (streamAt m k)) in
     let new = withStream m k (analysed (streamAt m k) (now b)) in
-    let words = gave tt in
+    let words = gave tt .0 in
     answered (change-answer i packed new (words m (h .sound) (h .same)))
     (record { sound = sound-after-analysis k (now b) m (h .sound); same = held-after (λ (x : Meter). analysisOf x k (now b)) m words (h .sound) (h .same) })
     (by-analysis ([], tt) k b (changed i m new) (λ p. changed-gives i m new))
 stepped m h (lent.by-metering κs w k v n w₁ gave) =
     let i = firstOf (meteringOrder k v (streamAt m k)) in
     let new = withStream m k (metered (streamAt m k) v) in
-    let words = gave (lent-by h) in
+    let words = gave (lent-by h) .0 in
     answered (change-answer i packed new (words m (h .sound) (h .same)))
     (record { sound = sound-after-metering k v m (h .sound); same = held-after (λ (x : Meter). meteringOf x k v) m words (h .sound) (h .same) })
     (by-metering k v (changed i m new) (λ p. changed-gives i m new))
@@ -88,8 +88,17 @@ ran m h (lent.after w w₁ w₂ cs₁ cs rs₁ rs s more) =
     let rest = ran (one .meter) (one .holds) more in
     record { meter = rest .meter; holds = rest .holds; run = after m (one .meter) (rest .meter) cs₁ cs rs₁ rs (one .step) (rest .run) }
 
-required : {w : Words} {m : Meter} → Holds w m → LentRequired w
-required h = record { metering = λ κs r k v e. subst Lent (sym e) (lent-by h); mean = λ κs r k x e. subst Lent (sym e) (lent-by h) }
+required : {w : Words} → Lent w → LentRequired w
+required l =
+    record {
+      analysis = λ κs r k b e. tt;
+      metering = λ κs r k v e. subst Lent (sym e) l;
+      totals = λ κs r k t e. tt;
+      mean = λ κs r k x e. subst Lent (sym e) l;
+    }
+
+pub check-decides : CheckDecides
+check-decides κs w b gave = record { only = λ e. required (gave tt .only e); always = λ q. gave tt .always (q .metering κs w 0 0 refl) }
 
 pub lent-demand3 : LentClaim
 lent-demand3 κs old new cs rs w made run =
@@ -102,5 +111,5 @@ lent-demand3 κs old new cs rs w made run =
       holds = r .holds .same;
       ran = r .run;
       demand = demand3 freshMeter (r .meter) cs rs (λ p. refl) (r .run);
-      required = required (r .holds);
+      required = required (lent-by (r .holds));
     }

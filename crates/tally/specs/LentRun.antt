@@ -1,6 +1,7 @@
 -- What the exported functions of crates/loonstool did on lent words in a list of calls, and demand 3 of it: each run on words is a run of
 -- the meter that the words hold.
 use mathlib.Core.Path.{_≡_}
+use mathlib.Core.Bool.{Bool}
 use mathlib.Core.List.{List, [], _∷_, _++_}
 use Prim.Native.Nat.{ℕ}
 use contract.Lifetimes.{Lfts}
@@ -10,7 +11,9 @@ use Rattle.records.specs.Order.{decided}
 use Rattle.meter.specs.declared.Meter.{Meter}
 use Rattle.lent_meter.specs.Words.{packed}
 use Rattle.lent_meter.specs.Lent.{Lent}
+use Rattle.lent_meter.specs.Check.{Tells}
 use Rattle.loonstool.proofs.loonstool_meter_fresh.Reads as fresh-reads
+use Rattle.loonstool.proofs.loonstool_meter_check.Reads as check-reads
 use Rattle.loonstool.proofs.loonstool_meter_analysis.Reads as analysis-reads
 use Rattle.loonstool.proofs.loonstool_meter_metering.Reads as metering-reads
 use Rattle.loonstool.proofs.loonstool_meter_totals.Reads as totals-reads
@@ -26,6 +29,9 @@ Words = List (List ℕ)
 -- it was at the entry, and behind it as it was at the exit
 abbrev pub FreshGave : Lfts 1 → RefT Words → RefT Words → Type 0
 FreshGave κs w w₁ = fresh-reads.Asked κs (w, tt) → fresh-reads.Learnt κs (w, tt) tt (w₁, tt)
+
+abbrev pub CheckGave : Lfts 1 → RefT Words → Bool → Type 0
+CheckGave κs w b = check-reads.Asked κs (w, tt) → check-reads.Learnt κs (w, tt) b (w, tt)
 
 abbrev pub AnalysisGave : Lfts 2 → RefT Words → ℕ → RefT (List ℕ) → ℕ → RefT Words → Type 0
 AnalysisGave κs w k b n w₁ = analysis-reads.Asked κs (w, (k, (b, tt))) → analysis-reads.Learnt κs (w, (k, (b, tt))) n (w₁, (k, (b, tt)))
@@ -61,8 +67,14 @@ pub data LentRun : Words → List Call → List Answer → Words → Type 0 wher
 
 -- what the contracts require of words, with any other arguments
 pub record LentRequired (w : Words) : Type 0 where
+  pub analysis : (κs : Lfts 2) (r : RefT Words) (k : ℕ) (b : RefT (List ℕ)) → now r ≡ w → analysis-reads.Asked κs (r, (k, (b, tt)))
   pub metering : (κs : Lfts 1) (r : RefT Words) (k v : ℕ) → now r ≡ w → metering-reads.Asked κs (r, (k, (v, tt)))
+  pub totals : (κs : Lfts 2) (r : RefT Words) (k : ℕ) (t : RefT (List ℕ)) → now r ≡ w → totals-reads.Asked κs (r, (k, (t, tt)))
   pub mean : (κs : Lfts 2) (r : RefT Words) (k : ℕ) (h : RefT ℕ) → now r ≡ w → mean-reads.Asked κs (r, (k, (h, tt)))
+
+-- the exported `check` accepts words exactly where what the contracts require of them holds
+abbrev pub CheckDecides : Type 0
+CheckDecides = (κs : Lfts 1) (w : RefT Words) (b : Bool) → CheckGave κs w b → Tells b (LentRequired (now w))
 
 -- the list cs on the words w₀, with the answers rs and the words w after it: a run of the meter that the words hold, from one that `fresh`
 -- returned, so demand 3 holds of the answers and of that meter

@@ -38,24 +38,32 @@ module _ (c : tie.After-wide2) where
   metering-is = c .wide2 .ensures ∙ c .before .metering-in .ensures
 
 returns : tie.Need-returns
-returns c s sound holds =
+returns c =
     let r = c .before in
-    let bytes = r .before .before .args .bytes .now in
-    number-refuses packedStream (analysed s bytes) _ (record-refused s holds bytes (r .refusal .ensures) (c .if1 .taken)) (c .if1 .taken) refl
+    let bytes = r .before .before .args .bytes .now in (
+      λ s sound holds. number-refuses packedStream (analysed s bytes) _ (record-refused s holds bytes (r .refusal .ensures) (c .if1 .taken)) (c .if1 .taken) refl,
+      λ h. refl,
+    )
 
 returns-2 : tie.Need-returns-2
-returns-2 c s sound holds =
+returns-2 c =
     let w = c .before .before .before .before in
-    let e = found w in
-    number-refuses packedStream (analysed s (bs e)) _ (record-accepted s holds (bs e) (combustion-is w) (metering-is w) (accepts e) (c .if2 .taken)) (λ z. omega arith) refl
+    let e = found w in (
+      λ s sound holds.
+          number-refuses packedStream (analysed s (bs e)) _ (record-accepted s holds (bs e) (combustion-is w) (metering-is w) (accepts e) (c .if2 .taken)) (λ z. omega arith) refl,
+      λ h. refl,
+    )
 
 returns-3 : tie.Need-returns-3
-returns-3 c s sound holds =
+returns-3 c =
     let p = c .before .before in
     let w = p .before .before .before .before .before in
-    let e = found w in
-    number-accepts packedStream (analysed s (bs e)) _ (record-accepted s holds (bs e) (combustion-is w) (metering-is w) (accepts e) (p .before .if2 .left)) refl
-    (c .put-gas .ensures ∙ row-analysed s holds (bs e) (combustion-is w) (metering-is w) (p .calculate .ensures))
+    let e = found w in (
+      λ s sound holds.
+          number-accepts packedStream (analysed s (bs e)) _ (record-accepted s holds (bs e) (combustion-is w) (metering-is w) (accepts e) (p .before .if2 .left)) refl
+          (c .put-gas .ensures ∙ row-analysed s holds (bs e) (combustion-is w) (metering-is w) (p .calculate .ensures)),
+      λ h. elim (h refl) [ ],
+    )
 
 pub analysis-row-spec : {M : Type 1} → statement M
 analysis-row-spec =

@@ -13,7 +13,7 @@ use Rattle.meter.specs.Calls.{meanIn, meanOf}
 use Rattle.meter.specs.Answers.{meanMeaning}
 use Rattle.meter.proofs.Orders.{above, not-above}
 use Rattle.lent_meter.specs.Words.{packed}
-use Rattle.lent_meter.proofs.Outcomes.{number-refuses, row-holds, lent-row}
+use Rattle.lent_meter.proofs.Outcomes.{number-refuses, row-is, lent-row}
 use Rattle.lent_meter.proofs.Rows.{totals-are}
 use Rattle.lent_meter.proofs.mean.Statement.{statement}
 use Rattle.lent_meter.proofs.mean.Tie as tie
@@ -41,7 +41,7 @@ found c m sound holds =
     let low = e .if1 .left in
     c .mean-over .ensures
     ∙ ap (λ (x : StreamTotals). decided (firstOf (zeroOrder (totalZero (x .volume)))) (meanIn (x .superior) (x .volume)))
-    (t .totals-in .ensures ∙ totals-are s (row-holds m sound holds k low))
+    (t .totals-in .ensures ∙ totals-are s (row-is m sound holds k low))
     ∙ ap (λ (n : ℕ). decided n (meanIn (s .totals .superior) (s .totals .volume))) (not-above (zeroOrder (totalZero (s .totals .volume))) low)
 
 returns-2 : tie.Need-returns-2

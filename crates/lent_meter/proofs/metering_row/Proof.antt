@@ -28,26 +28,34 @@ module _ (c : tie.After-totals-in) where
   sound = let l = start .pre in rw (read (l .stream) (l .holds)) (l .sound .totals)
 
 returns : tie.Need-returns
-returns c s sound holds = let v = c .before .args .volume in number-refuses packedStream (metered s v) _ (fifteen s v (c .if1 .taken)) (λ z. omega arith) refl
+returns c =
+    let v = c .before .args .volume in
+    (λ s sound holds. number-refuses packedStream (metered s v) _ (fifteen s v (c .if1 .taken)) (λ z. omega arith) refl, λ h. refl)
 
 returns-2 : tie.Need-returns-2
-returns-2 c s sound holds =
+returns-2 c =
     let e = c .before .before in
-    let v = e .before .args .volume in
-    number-refuses packedStream (metered s v) _ (sixteen s v (e .if1 .left) (none-is s holds (eq-eqb _ 0 (c .if2 .taken)))) (λ z. omega arith) refl
+    let v = e .before .args .volume in (
+      λ s sound holds.
+          number-refuses packedStream (metered s v) _ (sixteen s v (e .if1 .left) (none-is s holds (eq-eqb _ 0 (c .if2 .taken)))) (λ z. omega arith) refl,
+      λ h. refl,
+    )
 
 add-if3 : tie.Need-add-if3
 add-if3 c = omega (arith, sound (c .before) .volume, c .before .before .before .before .before .if1 .left)
 
 returns-3 : tie.Need-returns-3
-returns-3 c s sound holds =
+returns-3 c =
     let t = c .before .before in
     let d = t .before .before in
     let e = d .before .before in
-    let v = e .before .args .volume in
-    number-refuses packedStream (metered s v) _
-    (seventeen s v (e .if1 .left) (none-is s holds (ne-eqb _ 0 (d .if2 .left))) (omega (arith, c .if3 .taken, volume-is t s holds)))
-    (λ z. omega arith) refl
+    let v = e .before .args .volume in (
+      λ s sound holds.
+          number-refuses packedStream (metered s v) _
+          (seventeen s v (e .if1 .left) (none-is s holds (ne-eqb _ 0 (d .if2 .left))) (omega (arith, c .if3 .taken, volume-is t s holds)))
+          (λ z. omega arith) refl,
+      λ h. refl,
+    )
 
 properties-in-requires : tie.Need-properties-in-requires
 properties-in-requires c κs = let l = start (c .before .before .before) .pre in six-bounded (l .stream) (l .holds) (l .sound)
@@ -62,18 +70,21 @@ added-requires c κs =
     ((sound t, rw (p .properties-in .ensures) (six-bounded (l .stream) (l .holds) (l .sound))), (e .if1 .left, d .if3 .left))
 
 returns-4 : tie.Need-returns-4
-returns-4 c s sound holds =
+returns-4 c =
     let a = c .before in
     let p = a .before .before in
     let b = p .before .before in
     let t = b .before .before in
     let d = t .before .before in
     let e = d .before .before in
-    let v = e .before .args .volume in
-    let some = none-is s holds (ne-eqb _ 0 (d .if2 .left)) in
-    number-accepts packedStream (metered s v) _
-    (clear s v (e .if1 .left) some (omega (arith, b .if3 .left, volume-is t s holds))) refl
-    (c .put-totals .ensures ∙ row-metered s holds some v (t .totals-in .ensures) (p .properties-in .ensures) (a .added .ensures))
+    let v = e .before .args .volume in (
+      λ s sound holds.
+          let some = none-is s holds (ne-eqb _ 0 (d .if2 .left)) in
+          number-accepts packedStream (metered s v) _
+          (clear s v (e .if1 .left) some (omega (arith, b .if3 .left, volume-is t s holds))) refl
+          (c .put-totals .ensures ∙ row-metered s holds some v (t .totals-in .ensures) (p .properties-in .ensures) (a .added .ensures)),
+      λ h. elim (h refl) [ ],
+    )
 
 pub metering-row-spec : {M : Type 1} → statement M
 metering-row-spec =
