@@ -99,6 +99,8 @@ static int above(const char *name, void (*function)(void), size_t most)
 {
     size_t taken = taken_by(function) - taken_by(nothing) + BELOW;
     printf("%s: %zu bytes, %d below the stack pointer among them, at most %zu\n", name, taken, BELOW, most);
+    if (taken > most)
+        fprintf(stderr, "stack: %s takes more than the header says\n", name);
     if (number != LOONSTOOL_ACCEPTED)
         fprintf(stderr, "stack: %s gave %d\n", name, number);
     return taken > most || number != LOONSTOOL_ACCEPTED;

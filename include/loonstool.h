@@ -24,21 +24,23 @@
  *
  * And for a meter, which is memory that the caller lends:
  *   - its words hold a meter: loonstool_meter_fresh made them and the other calls alone changed them, or loonstool_meter_check accepted
- *     them. On other words loonstool_meter_metering and loonstool_meter_mean promise nothing and may trap; loonstool_meter_analysis and
- *     loonstool_meter_totals stay within the memory that is lent, and promise no more;
+ *     them. On other words loonstool_meter_metering and loonstool_meter_mean promise nothing and may trap; loonstool_meter_totals stays
+ *     within the memory that is lent, and promises no more; loonstool_meter_analysis leaves every other stream, and on a refusal all;
  *   - one call at a time on a meter, but for those that only read it. Several meters may run at once.
  *
  * Words that were restored go through loonstool_meter_check. It refuses a property above its ceiling or below its floor, which no accepted
  * record's is, an Hi above Hs, a Wobbe index that is not that of Hs and d, a pair that is not permitted, a stream without an analysis that
  * is not 0 everywhere, a volume total above 999,999,999,999 dm3, a rest of 10^9 mJ or more, and an energy that its volume cannot have. It
- * cannot find a damage that leaves a possible meter, as a flipped bit of a volume total may: that takes a checksum.
+ * cannot find a damage after which all of this holds, as it may after a flipped bit of a volume total: that takes a checksum. Words kept by
+ * one version of the library go into another where LOONSTOOL_STREAMS and LOONSTOOL_STREAM_WORDS are the same; before an update to one with
+ * other numbers the totals are read out.
  *
  * Power cuts: a call is several stores, in no order that is promised. A cut between them leaves neither the meter before the call nor the
  * one after it, but, for instance, a volume without its energy, which loonstool_meter_check need not find. So firmware keeps the meter
  * twice in memory that outlasts a cut, each copy with a counter, which says which is newer, and a checksum. It takes the newer copy, makes
  * the call, and stores the outcome over the older copy, which is marked as unfinished before its first word changes and gets its checksum
  * after the last. At every moment one copy is whole, and after a restart the newest whole one is the meter before the call or the one
- * after it. c/keep.c does so, and c/try_keep.c cuts its power before every store.
+ * after it; the counter, noted before the call, tells which. c/keep.c does so, and c/try_keep.c cuts its power before every store.
  *
  * The archive is for x86-64 alone: ELF, System V calling convention, SSE2 registers, 128 bytes below the stack pointer in use. Without an
  * operating system SSE has to be switched on, and an interrupt handler leaves those 128 bytes and the xmm registers as they were. It needs

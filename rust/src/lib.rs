@@ -1,5 +1,6 @@
 //! Gas metering for analysers by ISO 6976:1995: safe functions over the proved static library (see `include/loonstool.h` in the
-//! repository, which also has the format of an analysis record and its limits). The library is for x86-64.
+//! repository, which also has the format of an analysis record and its limits). The library is for x86-64; what it asks of a program
+//! without an operating system (SSE switched on, `memcpy` and `memset`, 128 bytes below the stack pointer) the header says.
 //!
 //! A [`Meter`] adds up volume and energy of sixteen streams of natural gas:
 //!
@@ -50,6 +51,7 @@ pub use refusal::Refusal;
 pub const LINES: usize = 55;
 
 /// The bytes of a record with `entries` entries.
+#[must_use]
 pub const fn record_bytes(entries: usize) -> usize {
     8 + 5 * entries
 }

@@ -112,8 +112,8 @@ impl Meter {
         Self { words }
     }
 
-    /// The meter that words hold: words as [`words`](Self::words) gave them are accepted. Others are accepted where everything holds of
-    /// them that holds of every meter: each stream has words of 0 alone, or a permitted pair, properties from
+    /// The meter that words hold: words as [`words`](Self::words) gave them are accepted. Others are accepted where what is tested holds
+    /// of them, as it does of every meter: each stream has words of 0 alone, or a permitted pair, properties from
     /// [`FLOORS`](crate::Properties::FLOORS) to [`CEILINGS`](crate::Properties::CEILINGS) with Hi not above Hs and the Wobbe index that of
     /// Hs and d, a volume of at most 999,999,999,999 dm³, a rest below 10^9 mJ, and an energy that its volume can have at Hs between floor
     /// and ceiling.
@@ -126,7 +126,7 @@ impl Meter {
         }
     }
 
-    /// The words, to be saved.
+    /// The words, to be saved. Another version of the library takes them where [`STREAMS`] and [`STREAM_WORDS`] are the same.
     #[must_use]
     #[inline]
     pub const fn words(&self) -> &Words {
@@ -164,8 +164,8 @@ impl Meter {
         Ok(unsafe { totals.assume_init() })
     }
 
-    /// The mean calorific value of a stream in J/m³: its energy by its volume, to the nearest whole number. Refused by 13 and 18, tried
-    /// in that order.
+    /// The mean calorific value of a stream in J/m³: its energy by its volume, to the nearest whole number, halves upward. Refused by 13
+    /// and 18, tried in that order.
     #[inline]
     pub fn mean(&self, stream: usize) -> Result<u64, Refusal> {
         let mut mean = MaybeUninit::uninit();

@@ -20,6 +20,7 @@ macro_rules! refusals {
             pub const ALL: &'static [(&'static str, Refusal)] = &[$((stringify!($name), Refusal::$name)),*];
 
             /// The name of its constant.
+            #[must_use]
             pub const fn name(self) -> &'static str {
                 match self.number {
                     $($number => stringify!($name),)*
@@ -28,6 +29,7 @@ macro_rules! refusals {
             }
 
             /// The condition that holds.
+            #[must_use]
             pub const fn condition(self) -> &'static str {
                 match self.number {
                     $($number => $says,)*
@@ -63,6 +65,7 @@ refusals! {
 
 impl Refusal {
     /// The number.
+    #[must_use]
     pub const fn number(self) -> u8 {
         self.number
     }

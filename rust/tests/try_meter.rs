@@ -30,10 +30,14 @@ const STREAMS: [usize; 9] = [0, 0, 0, 1, 1, 2, 15, 16, usize::MAX];
 fn random_lists() {
     let mut random = Random::new(SEED);
     let mut all = String::new();
+    let with_program = Path::new(SOURCE).is_dir();
+    if !with_program {
+        println!("there is no {SOURCE}: the comparison with it is left out");
+    }
     for number in 0..LISTS {
         let list = random_list(&mut random);
         let text = calls::printed(&list);
-        if Path::new(SOURCE).is_dir() {
+        if with_program {
             assert_eq!(proved(&calls::input(&list)), text, "list {number}");
         }
         all += &text;

@@ -12,7 +12,7 @@ use Rattle.meter.specs.Conditions.{streamAnalysisOrder, streamMeteringOrder}
 use Rattle.meter.specs.Calls.{analysed, metered}
 use Rattle.lent_meter.specs.Words.{packedStream, packed}
 
--- a row holds a stream, and words hold a meter, on which everything holds that holds of every stream and of every meter
+-- a row holds a stream, and words hold a meter, of which holds what a contract may ask of one
 pub record LentRow (row : List ℕ) : Type 0 where
   pub stream : Stream
   pub sound : SoundStream stream

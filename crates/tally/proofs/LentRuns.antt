@@ -20,7 +20,7 @@ use Rattle.tally.specs.LentRun.{Words, totalsPut, LentStep, LentRun, Len
 use Rattle.tally.proofs.Demand.{demand3}
 use Rattle.tally.proofs.Exists.{totals-with, totals-means, mean-with, mean-means, changed, changed-gives}
 
--- words hold a meter on which everything holds that holds of every meter
+-- words hold a sound meter
 record Holds (w : Words) (m : Meter) : Type 0 where
   pub sound : Sound m
   pub same : w ≡ packed m

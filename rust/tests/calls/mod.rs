@@ -154,7 +154,7 @@ fn reading(k: usize, totals: Result<(u64, u64, u64), u8>, mean: Result<u64, u8>)
 }
 
 /// The words for a call that is accepted or refused.
-pub fn verdict(answer: Result<(), u8>) -> String {
+fn verdict(answer: Result<(), u8>) -> String {
     match answer {
         Ok(()) => String::from("accepted"),
         Err(number) => format!("refused {number}"),

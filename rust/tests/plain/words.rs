@@ -25,9 +25,9 @@ pub fn row_of(stream: &Stream) -> [u64; STREAM_WORDS] {
     ]
 }
 
-/// Whether everything holds of words that holds of every meter, as made or as
-/// its calls left it. Floors and ceilings are the library's: the paper gives
-/// none.
+/// Whether holds of words what the library's check tests, and what holds of
+/// every meter, as made or as its calls left it. Floors and ceilings are the
+/// library's: the paper gives none.
 pub fn hold_a_meter(words: &Words) -> bool {
     let mut rows = words.iter().map(|row| row.map(u128::from));
     rows.all(holds_a_stream)
