@@ -8,7 +8,7 @@ use native.Mathlib.Omega.{arith}
 use lib.IntN.{pos, natAbs}
 use Rattle.rounding.specs.Fraction.{Within, _over_, half, whole}
 use Rattle.rounding.specs.Root.{Root}
-use Rattle.rounding.proofs.NearLaws.{near-monotone, near-z-half}
+use Rattle.rounding.proofs.NearLaws.{near-half, near-monotone, near-z-half}
 use Rattle.rounding.proofs.FractionLaws.{within-wider, within-one}
 use Rattle.components.specs.Table.{superior, inferior, Heat, Unsigned}
 use Rattle.components.specs.Composition.{sumOf, overLines}
@@ -23,12 +23,13 @@ use Rattle.records.proofs.Accepted.{accepted-is-acceptable}
 use Rattle.properties.specs.Chain.{combustionPlace, T, D, HmSuperior, HmInferior, M, S, S9, Z, Hs, Hi, rho, A, G, d, r, W, idealCalorific, idealDensity, real, wobbe, rootOf, sixOf}
 use Rattle.properties.specs.Unrounded as unrounded
 use Rattle.properties.specs.Quantities.{calorificBound, densityBound, relativeBound, wobbeBound, Bounded}
-use Rattle.properties.specs.Bounds.{divisorLow, divisorHigh, airLow, airHigh, compressionLow, calorificLow, idealCalorificHigh, calorificHigh, densityLow, relativeLow, idealRelativeHigh, idealHigh, wobbeLow, Floored, Proper}
+use Rattle.properties.specs.Bounds.{divisorLow, divisorHigh, airLow, airHigh, compressionLow, calorificLow, idealCalorificHigh, calorificHigh, densityLow, relativeLow, idealRelativeHigh, idealHigh, wobbeLow, Floored, Proper, DensityByAir}
 use Rattle.properties.specs.Distances.{Indexed, Distances}
 use Rattle.properties.specs.Accepted.{Amounts, Squares, EveryAcceptedRecord}
 use Rattle.properties.proofs.Approximations.{z-low, z-within, real-within}
 use Rattle.properties.proofs.Index.{indexed}
-use Rattle.properties.proofs.StepBounds.{tenth-high, compression-high, divisor-low, temperature-high, air-low, air-high, metering-place, combustion-place, calorific-near, ideal-calorific-high, ideal-calorific-low, density-near, ideal-density-high, ideal-density-low, relative-near, ideal-relative-high, ideal-relative-low, real-high, real-low, root-of, root-low, wobbe-near, wobbe-high, wobbe-low}
+use Rattle.properties.proofs.Air.{by-mass, by-air}
+use Rattle.properties.proofs.StepBounds.{tenth-high, compression-high, divisor-low, temperature-high, air-low, air-high, air-density-high, metering-place, combustion-place, calorific-near, ideal-calorific-high, ideal-calorific-low, density-near, ideal-density-high, ideal-density-low, relative-near, ideal-relative-high, ideal-relative-low, real-high, real-low, root-of, root-low, wobbe-near, wobbe-high, wobbe-low}
 
 heats : (c : ℕ) → Heat (superior (combustionPlace c)) × Heat (inferior (combustionPlace c))
 heats c = let h = combustion-place c in ((omega arith, omega arith), (omega arith, omega arith))
@@ -238,6 +239,15 @@ module _ (k : Contents) (a : Acceptable k) where
   pub proper : Proper (sixOf k)
   proper = record { floored = floored; bounded = bounded; order = Hi-below; index = index }
 
+  pub density-by-air : DensityByAir (k .metering) (sixOf k)
+  unfolding D T A
+  density-by-air =
+      let law = by-mass (unrounded.M k) (unrounded.Z k) in
+      by-air (10132500 * 289626000) (D k * A k) _ (d k) (rho k) (near-half _ _ (omega (arith, mul-le-mul D-low A-low)))
+      _ (near-half _ _ (omega arith)) (air-density-high (k .metering)) d-high
+      (law 10132500 (A k) (D k) 289626000 _ _ rho-within d-within)
+      (law (A k) 10132500 289626000 (D k) _ _ d-within rho-within)
+
   pub distances : Distances k (sixOf k)
   distances = record { Z = Z-within; Hs = Hs-within; Hi = Hi-within; rho = rho-within; d = d-within; W = W-within }
 
@@ -254,5 +264,6 @@ every-accepted-record bs k e =
       squares = squares k a;
       root = greatest k a;
       proper = proper k a;
+      air = density-by-air k a;
       within = distances k a;
     }

@@ -1,5 +1,5 @@
 -- Bounds of the numbers of each step, from bounds of the numbers that it takes.
-use mathlib.Core.Path.{_≡_}
+use mathlib.Core.Path.{_≡_, refl}
 use mathlib.Core.Bool.{Bool, true, false, cond}
 use Prim.Native.Nat.{ℕ, _*_, _-_, _^_, _≤_, _<_}
 use native.Mathlib.Nat.{mul-le-mul, mul-le-mul-left}
@@ -12,8 +12,8 @@ use Rattle.rounding.specs.Fraction.{Within, _over_, half}
 use Rattle.rounding.proofs.NearLaws.{near-half, near-z-half, at-most, at-least}
 use Rattle.rounding.proofs.RootLaws.{root-is, root-greatest, below-of-squares}
 use Rattle.components.specs.Bounds.{heatLow, heatHigh, massLow, massHigh, summationHigh}
-use Rattle.properties.specs.Bounds.{divisorLow, divisorHigh, airLow, airHigh, compressionLow, calorificLow, idealCalorificHigh, calorificHigh, densityLow, relativeLow, idealRelativeHigh, idealHigh, rootLow, wobbeLow}
-use Rattle.properties.specs.Quantities.{relativeBound, wobbeBound}
+use Rattle.properties.specs.Bounds.{divisorLow, divisorHigh, airLow, airHigh, compressionLow, calorificLow, idealCalorificHigh, calorificHigh, densityLow, relativeLow, idealRelativeHigh, idealHigh, rootLow, wobbeLow, airDensity, airDensityHigh, byAir}
+use Rattle.properties.specs.Quantities.{densityBound, relativeBound, wobbeBound}
 use Rattle.properties.specs.Chain.{forMetering, temperature, divisor, meteringPlace, combustionPlace, airFactor, tenth, idealCalorific, idealDensity, idealRelative, real, rootOf, wobbe}
 
 -- what holds of three numbers holds of the one chosen
@@ -39,6 +39,22 @@ air-low = chosen (λ (n : ℕ). airLow ≤ n) (omega arith) (omega arith) (omega
 
 pub air-high : (m : ℕ) → airFactor m ≤ airHigh
 air-high = chosen (λ (n : ℕ). n ≤ airHigh) (omega arith) (omega arith) (omega arith)
+
+-- the density of air at each metering temperature
+pub air-density : (m : ℕ) → forMetering 1292922827 1225409709 1204448732 m ≡ airDensity m
+unfolding near
+air-density m = go (eqb m 0) (eqb m 15) refl refl
+  where
+    go : (a b : Bool) → eqb m 0 ≡ a → eqb m 15 ≡ b → forMetering 1292922827 1225409709 1204448732 m ≡ airDensity m
+    go true b e f = rw e
+    go false true e f = rw (e, f)
+    go false false e f = rw (e, f)
+
+pub air-density-high : (m : ℕ) → airDensity m ≤ airDensityHigh
+air-density-high m = rw (← air-density m) (chosen (λ (n : ℕ). n ≤ airDensityHigh) (omega arith) (omega arith) (omega arith) m)
+
+pub by-air-high : (m d : ℕ) → d ≤ relativeBound → byAir m d ≤ densityBound
+by-air-high m d h = at-most (near-half (d * airDensity m) (10 ^ 9) (omega arith)) (omega (arith, mul-le-mul h (air-density-high m)))
 
 pub metering-place : (m : ℕ) → meteringPlace m < 3
 metering-place = chosen (λ (n : ℕ). n < 3) (omega arith) (omega arith) (omega arith)

@@ -9,7 +9,7 @@ use Rattle.records.specs.Order.{accepted}
 use Rattle.records.specs.Format.{Contents}
 use Rattle.records.specs.Calls.{readingOf}
 use Rattle.properties.specs.Chain.{combustionPlace, sum, HmSuperior, HmInferior, M, S, S9, d, r, sixOf, propertiesOf}
-use Rattle.properties.specs.Bounds.{Proper}
+use Rattle.properties.specs.Bounds.{Proper, DensityByAir}
 use Rattle.properties.specs.Distances.{Distances}
 
 -- Hm and M are the sums themselves, since none is below 0
@@ -25,13 +25,15 @@ pub record Squares (k : Contents) : Type 0 where
   pub unrounded : natAbs (S k) * natAbs (S k) ≤ 100 * 10 ^ 18
 
 -- what is shown of a record that reads as k: the call answers its properties, from its sums; steps 2 and 6 mean what they say, with r
--- the greatest whole number with r² ≤ d × 10^10; none passes its ceiling or is below its floor, and each is within its distance
+-- the greatest whole number with r² ≤ d × 10^10; none passes its ceiling or is below its floor, rho is d times the density of air, and
+-- each is within its distance
 pub record Shown (bs : List ℕ) (k : Contents) : Type 0 where
   pub answer : propertiesOf bs ≡ accepted (sixOf k)
   pub amounts : Amounts k
   pub squares : Squares k
   pub root : Root (r k) (d k * 10 ^ 10)
   pub proper : Proper (sixOf k)
+  pub air : DensityByAir (k .metering) (sixOf k)
   pub within : Distances k (sixOf k)
 
 abbrev pub EveryAcceptedRecord : Type 0

@@ -1,8 +1,10 @@
 -- Bounds of the numbers of each step. Those of an accepted record, `..Low` and `..High`, follow from the bounds of its sums
 -- (components/specs/Bounds.antt); `..Bound` in Quantities.antt is a ceiling.
 use mathlib.Core.Path.{_≡_}
-use Prim.Native.Nat.{ℕ, _*_, _≤_}
-use Rattle.properties.specs.Chain.{Six, wobbe, rootOf}
+use Prim.Native.Nat.{ℕ, _*_, _^_, _≤_}
+use Rattle.rounding.specs.Near.{near}
+use Rattle.rounding.specs.Fraction.{Within, whole}
+use Rattle.properties.specs.Chain.{temperature, divisor, airFactor, Six, wobbe, rootOf}
 use Rattle.properties.specs.Quantities.{Bounded}
 
 -- Hm, M and an ideal value that a step takes, of any gas, so that its products fit 64 bits
@@ -80,3 +82,22 @@ pub record Proper (p : Six) : Type 0 where
   pub bounded : Bounded p
   pub order : p .Hi ≤ p .Hs
   pub index : p .W ≡ wobbe (p .Hs) (rootOf (p .d))
+
+-- the density of air at a metering temperature, by the numbers of steps 4 and 5, unit 10^-9 kg/m³, and what it is at most
+abbrev pub airDensity : ℕ → ℕ
+airDensity m = near (10132500 * 289626000 * 10 ^ 9) (divisor (temperature m) * airFactor m)
+
+abbrev pub airDensityHigh : ℕ
+airDensityHigh = 1300000000
+
+-- d times the density of air, unit 10^-8 kg/m³
+abbrev pub byAir : ℕ → ℕ → ℕ
+byAir m d = near (d * airDensity m) (10 ^ 9)
+
+-- the most that rho differs from it, since both rho and d are rounded
+abbrev pub airDistance : ℕ
+airDistance = 5
+
+-- what holds too of every accepted record, at the metering temperature m: rho is d times the density of air
+abbrev pub DensityByAir : ℕ → Six → Type 0
+DensityByAir m p = Within (whole airDistance) (p .rho) (whole (byAir m (p .d)))

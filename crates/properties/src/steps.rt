@@ -4,7 +4,7 @@ ghost use Prim.Native.Nat.{_*_, _^_, _≤_, _<_};
 ghost use lib.IntN.{natAbs};
 ghost use Rattle.rounding.specs.Near.{near};
 ghost use Rattle.components.specs.Bounds.{heatHigh, massHigh, summationHigh};
-ghost use Rattle.properties.specs.Bounds.{anyHeat, anyMass, anyIdeal, airHigh, compressionLow, calorificHigh, relativeLow};
+ghost use Rattle.properties.specs.Bounds.{anyHeat, anyMass, anyIdeal, airHigh, compressionLow, calorificHigh, relativeLow, byAir};
 ghost use Rattle.properties.specs.Quantities.{calorificBound, relativeBound};
 ghost use Rattle.properties.specs.Chain.{forMetering, temperature, divisor, airFactor, tenth, compression, idealCalorific, real, idealDensity, idealRelative, rootOf, wobbe};
 use super::quantities::CalorificValue;
@@ -137,4 +137,16 @@ pub fn wobbe_index(hs: CalorificValue, d: RelativeDensity) -> WobbeIndex
     ensures { λ r. ⌜ r .value ≡ wobbe (hs .value) (rootOf (d .value)) ⌝ }
 {
     WobbeIndex::new(index(hs.value(), d.value()))
+}
+
+// The most that rho differs from d times the density of air.
+pub const AIR_DISTANCE: u64 = 5;
+
+// d times the density of air, unit 10^-8 kg/m³, from the metering temperature in °C.
+pub fn by_air(metering: u8, d: u64) -> u64
+    requires { ⌜ d ≤ relativeBound ⌝ }
+    ensures { λ r. ⌜ r ≡ byAir metering d ⌝ }
+{
+    let air = for_metering(1292922827, 1225409709, 1204448732, metering);
+    rounding::nearest(d * air, 1000000000)
 }
