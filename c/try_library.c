@@ -407,11 +407,23 @@ static uint64_t index_of(uint64_t hs, uint64_t d)
     return (hs * 1000000000 + root / 2) / root;
 }
 
-/* Whether the words of a stream can be those of a meter: each lies between its lowest and its highest, Hi is not above Hs, W is the index of
- * Hs and d, and the energy lies between volume x the floor and volume x the ceiling of Hs; without an analysis all are 0. */
+/* d times the density of air at a metering temperature, halves upward. */
+static uint64_t by_air(uint64_t temperature, uint64_t d)
+{
+    const wide t = temperature == 0 ? 27315 : temperature == 15 ? 28815 : 29315;
+    const wide factor = temperature == 0 ? 99941 : temperature == 15 ? 99958 : 99963;
+    const wide divisor = 831451 * t * factor;
+    const wide air = ((wide)10132500 * 289626000 * 1000000000 + divisor / 2) / divisor;
+    return (uint64_t)((d * air + 500000000) / 1000000000);
+}
+
+/* Whether the words of a stream can be those of a meter: each lies between its lowest and its highest, Hi is not above Hs, rho differs by at
+ * most 5 from d times the density of air, W is the index of Hs and d, and the energy lies between volume x the floor and volume x the ceiling
+ * of Hs; without an analysis all are 0. */
 static bool can_be(const uint64_t *words)
 {
     wide energy = (wide)words[ENERGY_MJ] * 1000000000 + words[ENERGY_REST];
+    uint64_t density = by_air(words[METERING], words[D]);
     bool permitted = false;
     if (words[ANALYSED] == 0)
         return all_are((const uint8_t *)words, WORDS * sizeof *words, 0);
@@ -420,7 +432,8 @@ static bool can_be(const uint64_t *words)
             return false;
     for (size_t i = 0; i < 6; i++)
         permitted |= words[COMBUSTION] == pairs[i][0] && words[METERING] == pairs[i][1];
-    return permitted && words[HI] <= words[HS] && words[W] == index_of(words[HS], words[D]) &&
+    return permitted && words[HI] <= words[HS] && words[RHO] <= density + 5 && density <= words[RHO] + 5 &&
+           words[W] == index_of(words[HS], words[D]) &&
            energy >= (wide)words[VOLUME] * lowest[HS] && energy <= (wide)words[VOLUME] * highest[HS];
 }
 
@@ -437,12 +450,13 @@ static void expect_check(const char *what, size_t at)
     damages += !right;
 }
 
-/* A word of a stream set to what is at a limit, Hs among them, and each bit of it flipped. */
+/* A word of a stream set to what is at a limit, Hs and d times the density of air among them, and each bit of it flipped. */
 static void try_word(size_t stream, size_t word)
 {
-    uint64_t *words = meter->words[stream], was = words[word], hs = words[HS];
-    const uint64_t values[] = {0,  1,      2,       15,      20,               25,           1000000000,    UINT64_MAX,
-                               hs, hs + 1, was - 1, was + 1, lowest[word] - 1, lowest[word], highest[word], highest[word] + 1};
+    uint64_t *words = meter->words[stream], was = words[word], hs = words[HS], rho = by_air(words[METERING], words[D]);
+    const uint64_t values[] = {0,       1,       2,       15,      20,               25,           1000000000,    UINT64_MAX,
+                               hs,      hs + 1,  was - 1, was + 1, lowest[word] - 1, lowest[word], highest[word], highest[word] + 1,
+                               rho - 6, rho - 5, rho + 5, rho + 6};
     for (size_t i = 0; i < sizeof values / sizeof *values; i++) {
         words[word] = values[i];
         expect_check("a word at a limit", stream * WORDS + word);

@@ -29,11 +29,11 @@
  *   - one call at a time on a meter, but for those that only read it. Several meters may run at once.
  *
  * Words that were restored go through loonstool_meter_check. It refuses a property above its ceiling or below its floor, which no accepted
- * record's is, an Hi above Hs, a Wobbe index that is not that of Hs and d, a pair that is not permitted, a stream without an analysis that
- * is not 0 everywhere, a volume total above 999,999,999,999 dm3, a rest of 10^9 mJ or more, and an energy that its volume cannot have. It
- * cannot find a damage after which all of this holds, as it may after a flipped bit of a volume total: that takes a checksum. Words kept by
- * one version of the library go into another where LOONSTOOL_STREAMS and LOONSTOOL_STREAM_WORDS are the same; before an update to one with
- * other numbers the totals are read out.
+ * record's is, an Hi above Hs, a rho that differs by more than 5 units from d times the density of air, a Wobbe index that is not that of
+ * Hs and d, a pair that is not permitted, a stream without an analysis that is not 0 everywhere, a volume total above 999,999,999,999 dm3,
+ * a rest of 10^9 mJ or more, and an energy that its volume cannot have. It cannot find a damage after which all of this holds, as it may
+ * after a flipped bit of a volume total: that takes a checksum. Words kept by one version of the library go into another where
+ * LOONSTOOL_STREAMS and LOONSTOOL_STREAM_WORDS are the same; before an update to one with other numbers the totals are read out.
  *
  * Power cuts: a call is several stores, in no order that is promised. A cut between them leaves neither the meter before the call nor the
  * one after it, but, for instance, a volume without its energy, which loonstool_meter_check need not find. So firmware keeps the meter

@@ -114,9 +114,9 @@ impl Meter {
 
     /// The meter that words hold: words as [`words`](Self::words) gave them are accepted. Others are accepted where what is tested holds
     /// of them, as it does of every meter: each stream has words of 0 alone, or a permitted pair, properties from
-    /// [`FLOORS`](crate::Properties::FLOORS) to [`CEILINGS`](crate::Properties::CEILINGS) with Hi not above Hs and the Wobbe index that of
-    /// Hs and d, a volume of at most 999,999,999,999 dm³, a rest below 10^9 mJ, and an energy that its volume can have at Hs between floor
-    /// and ceiling.
+    /// [`FLOORS`](crate::Properties::FLOORS) to [`CEILINGS`](crate::Properties::CEILINGS) with Hi not above Hs, rho at most 5 units from d
+    /// times the density of air at the metering temperature, and the Wobbe index that of Hs and d, a volume of at most 999,999,999,999 dm³,
+    /// a rest below 10^9 mJ, and an energy that its volume can have at Hs between floor and ceiling.
     #[inline]
     pub fn from_words(words: Words) -> Result<Self, NotAMeter> {
         // SAFETY: `words` is ours; the call takes whatever words they are.

@@ -11,7 +11,9 @@ mod records;
 use calls::{analysis, call, Answer, Call, TakesCalls};
 use cases::{every_line, record, K1, K2};
 use loonstool::{Meter, NotAMeter, Properties, Words, STREAMS, STREAM_WORDS};
-use plain::meter::{GREATEST_TOTAL, GREATEST_VOLUME, MEGAJOULE};
+use plain::conditions::Conditions;
+use plain::meter::{InForce, GREATEST_TOTAL, GREATEST_VOLUME, MEGAJOULE};
+use plain::properties::{air_density, by_air};
 use plain::words::{hold_a_meter, meter_of, words_of};
 use records::{Random, PAIRS};
 
@@ -181,7 +183,7 @@ fn two_words_exchanged() {
 fn some_words_damaged() {
     let mut counts = Counts::default();
     let (mut random, meters, limits) = (Random::new(SEED), meters(), limits());
-    for _ in 0..300_000 {
+    for _ in 0..500_000 {
         let mut words = *random.one_of(&meters).words();
         let stream = random.index(STREAMS);
         for _ in 0..2 + random.index(3) {
@@ -204,14 +206,45 @@ const DAMAGED: usize = 3;
 #[test]
 fn every_pair() {
     let mut counts = Counts::default();
-    let mut meter = metered();
-    for [combustion, metering] in (0..=u16::MAX).map(u16::to_le_bytes) {
-        let in_force = meter.streams[DAMAGED].in_force.as_mut();
-        in_force.expect("it has an analysis").pair = (combustion, metering);
-        counts.restore(&words_of(&meter), DAMAGED);
+    // Each has another metering temperature, and so another density of air: a pair goes with one of them.
+    for stream in [0, 1, 4] {
+        let mut meter = metered();
+        for [combustion, metering] in (0..=u16::MAX).map(u16::to_le_bytes) {
+            in_force(&mut meter, stream).pair = (combustion, metering);
+            counts.restore(&words_of(&meter), stream);
+        }
     }
     counts.print("every pair of two bytes", 6);
     assert_eq!(counts.accepted, 6);
+}
+
+fn in_force(meter: &mut plain::Meter, stream: usize) -> &mut InForce {
+    let in_force = meter.streams[stream].in_force.as_mut();
+    in_force.expect("it has an analysis")
+}
+
+#[test]
+fn density_at_its_distance() {
+    let mut counts = Counts::default();
+    for (stream, (combustion, metering)) in PAIRS.into_iter().enumerate() {
+        let conditions = Conditions::of(combustion, metering).expect("it is permitted");
+        // As the standard has it, in mg/m³.
+        let standard = match metering {
+            0 => 1_292_923,
+            15 => 1_225_410,
+            _ => 1_204_449,
+        };
+        assert_eq!((air_density(&conditions) + 500) / 1_000, standard);
+        let mut meter = metered();
+        let [.., d, _] = in_force(&mut meter, stream).six;
+        let by_air = by_air(d.into(), &conditions) as u32;
+        for rho in by_air - 6..=by_air + 6 {
+            in_force(&mut meter, stream).six[3] = rho;
+            counts.restore(&words_of(&meter), stream);
+        }
+    }
+    counts.print("density at its distance", 12);
+    assert_eq!((counts.accepted, counts.refused), (6 * 11, 6 * 2));
 }
 
 #[test]

@@ -9,16 +9,14 @@ use borrow.Author.Tests.{eqb-true, eqb-false}
 use lib.Dec.{eqb}
 use lib.ListN.{length, getD, drop, replicate, drop-of-length-le}
 use lib.Seq.{drop-cons}
-use Rattle.records.specs.Conditions.{permitted}
 use Rattle.records.proofs.OrderLaws.{both}
-use Rattle.properties.specs.Bounds.{Proper}
 use Rattle.meter.specs.declared.InForce.{InForce}
 use Rattle.meter.specs.declared.InForce.the-variants.{Nothing, Known}
 use Rattle.meter.specs.declared.StreamTotals.{StreamTotals}
 use Rattle.meter.specs.declared.Stream.{Stream}
-use Rattle.meter.specs.State.{freshStream, SoundTotals, SoundAnalysis, SoundStream}
+use Rattle.meter.specs.State.{freshStream, SoundTotals, SoundGas, SoundAnalysis, SoundStream}
 use Rattle.meter.proofs.Kept.{fresh-stream-is-sound}
-use Rattle.lent_meter.specs.Words.{packedTotals, analysisWords, packedStream, sixIn, gasIn, totalsIn}
+use Rattle.lent_meter.specs.Words.{packedTotals, analysisWords, packedStream, gasIn, totalsIn}
 use Rattle.lent_meter.specs.Lent.{LentRow, EachLent, Lent}
 use Rattle.lent_meter.proofs.Outcomes.{lent-row}
 use Rattle.lent_meter.specs.Check.{Tells}
@@ -40,13 +38,12 @@ blank (Known gas) t h none = elim (none refl) [ ]
 
 -- the parts of a stream with an analysis
 record Parts (row : List ℕ) : Type 0 where
-  pub pair : permitted (getD row 1 0) (getD row 2 0) ≡ true
-  pub properties : Proper (sixIn row)
+  pub gas : SoundGas (gasIn row)
   pub totals : SoundTotals (totalsIn row)
 
 parts : (a : InForce) (t : StreamTotals) → SoundAnalysis a t → SoundTotals t → getD (analysisWords a (packedTotals t)) 0 0 ≡ 1 → Parts (analysisWords a (packedTotals t))
 parts Nothing t h sound one = let f : ⊥ = omega arith in elim f [ ]
-parts (Known gas) t h sound one = record { pair = h .pair; properties = h .properties; totals = sound }
+parts (Known gas) t h sound one = record { gas = record { pair = h .pair; properties = h .properties; air = h .air }; totals = sound }
 
 module _ (row : List ℕ) where
   pub blank-holds : row ≡ replicate 12 0 → LentRow row
@@ -57,7 +54,7 @@ module _ (row : List ℕ) where
   analysed-holds long one p =
       record {
         stream = record { analysis = Known (gasIn row); totals = totalsIn row };
-        sound = record { analysis = record { pair = p .pair; properties = p .properties }; totals = p .totals };
+        sound = record { analysis = p .gas; totals = p .totals };
         holds = dropped 0 12 row long ∙ ap (λ (w : ℕ). w ∷ elements 1 11 row) one;
       }
 
@@ -72,23 +69,21 @@ module _ (row : List ℕ) where
       l .holds ∙ blank (s .analysis) (s .totals) (l .sound .analysis) (λ one. none (ap (λ (r : List ℕ). getD r 0 0) (l .holds) ∙ one))
 
   -- a row that is not 0 everywhere, from the tests of its parts
-  pub row-holds : length row ≡ 12 → (row ≡ replicate 12 0 → ⊥) → {pair properties totals : Bool} → pair ≡ permitted (getD row 1 0) (getD row 2 0) →
-      Tells properties (Proper (sixIn row)) → Tells totals (SoundTotals (totalsIn row)) → Tells (eqb (getD row 0 0) 1 && pair && properties && totals) (LentRow row)
-  row-holds long some {pair} {properties} {totals} p c t =
+  pub row-holds : length row ≡ 12 → (row ≡ replicate 12 0 → ⊥) → {gas totals : Bool} → Tells gas (SoundGas (gasIn row)) → Tells totals (SoundTotals (totalsIn row)) →
+      Tells (eqb (getD row 0 0) 1 && gas && totals) (LentRow row)
+  row-holds long some {gas} {totals} g t =
       record {
         only = λ y.
             let z = both _ _ y in
-            let m = both _ _ (z .0) in
-            let f = both _ _ (m .0) in
-            analysed-holds long (eqb-true _ _ (f .0))
-            (record { pair = sym p ∙ f .1; properties = c .only (m .1); totals = t .only (z .1) });
+            let f = both _ _ (z .0) in
+            analysed-holds long (eqb-true _ _ (f .0)) (record { gas = g .only (f .1); totals = t .only (z .1) });
         always = λ l. go l (eqb (getD row 0 0) 1) refl;
       }
     where
-      go : LentRow row → (b : Bool) → eqb (getD row 0 0) 1 ≡ b → (eqb (getD row 0 0) 1 && pair && properties && totals) ≡ true
+      go : LentRow row → (b : Bool) → eqb (getD row 0 0) 1 ≡ b → (eqb (getD row 0 0) 1 && gas && totals) ≡ true
       go l true e =
           let q = lent-parts (eqb-true _ _ e) l in
-          rw (e, p ∙ q .pair, c .always (q .properties), t .always (q .totals))
+          rw (e, g .always (q .gas), t .always (q .totals))
       go l false e = elim (some (lent-blank (eqb-false _ _ e) l)) [ ]
 
 -- rows that hold a stream each hold a meter together

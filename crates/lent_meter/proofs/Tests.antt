@@ -1,7 +1,7 @@
--- The tests of a pair, of properties, and of a register at a volume.
+-- The tests of a pair, of properties, of a gas, and of a register at a volume.
 use mathlib.Core.Path.{_≡_, refl, sym, ap, _∙_}
-use mathlib.Core.Bool.{Bool, true, false, _&&_, _||_, and-false}
-use Prim.Native.Nat.{ℕ, _+_, _*_, _/_, _%_, _≤_, _<_}
+use mathlib.Core.Bool.{Bool, true, false, _&&_, _||_, and-false, true≢false}
+use Prim.Native.Nat.{ℕ, _+_, _*_, _/_, _%_, _^_, _≤_, _<_}
 use native.Mathlib.Nat.{mul-le-mul-right, div-add-mod', mod-lt}
 use native.Mathlib.Omega.{arith}
 use borrow.Author.Tests.{eqb-true, eqb-false, eq-eqb, ne-eqb, ltb-true, ltb-false, leb-true, leb-false, le-leb}
@@ -9,11 +9,13 @@ use lib.Dec.{eqb, leb, ltb}
 use Rattle.records.specs.Conditions.{permitted}
 use Rattle.records.proofs.OrderLaws.{both}
 use Rattle.properties.specs.Chain.{Six, wobbe, rootOf}
-use Rattle.properties.specs.Bounds.{calorificLow, Floored, Proper}
+use Rattle.properties.specs.Bounds.{calorificLow, Floored, Proper, airDistance, byAir, DensityByAir}
 use Rattle.properties.specs.Quantities.{calorificBound, Bounded}
+use Rattle.properties.specs.Answers.{numbers}
+use Rattle.meter.specs.declared.Gas.{Gas}
 use Rattle.meter.specs.declared.Register.{Register}
 use Rattle.meter.specs.declared.StreamTotals.{StreamTotals}
-use Rattle.meter.specs.State.{mostTotal, perMJ, nothingBooked, amountIn, SoundRegister, SoundTotals}
+use Rattle.meter.specs.State.{mostTotal, perMJ, nothingBooked, amountIn, SoundRegister, SoundTotals, SoundGas}
 use Rattle.meter.specs.Calls.{booked}
 use Rattle.meter.proofs.Registers.{amount-booked}
 use Rattle.lent_meter.specs.Check.{Tells, RegisterUnit, between, withinRanges, atMost}
@@ -26,6 +28,9 @@ large-combustion c m h = rw (ne-eqb c 15 (λ e. omega arith), ne-eqb c 0 (λ e. 
 pub large-metering : (c m : ℕ) → 255 < m → false ≡ permitted c m
 large-metering c m h =
     rw (ne-eqb m 15 (λ e. omega arith), ne-eqb m 0 (λ e. omega arith), ne-eqb m 20 (λ e. omega arith), and-false (eqb c 15), and-false (eqb c 0), and-false (eqb c 25), and-false (eqb c 20))
+
+pub metering-small : (c m : ℕ) → permitted c m ≡ true → m < 2 ^ 8
+metering-small c m h = let small : 255 < m → ⊥ = λ l. true≢false (sym h ∙ sym (large-metering c m l)) in omega arith
 
 -- the properties
 between-only : (a x b : ℕ) → between a x b ≡ true → (a ≤ x) × (x ≤ b)
@@ -66,6 +71,25 @@ properties-hold p within =
       only = λ y. let z = both _ _ y in record { floored = r .0; bounded = r .1; order = leb-true _ _ (z .0); index = eqb-true _ _ (z .1) };
       always = λ q. rw (le-leb _ _ (q .order), eq-eqb _ _ (q .index));
     }
+
+-- rho beside d times the density of air
+pub density-holds : (m : ℕ) (p : Six) → Tells (leb (p .rho) (byAir m (p .d) + airDistance) && leb (byAir m (p .d)) (p .rho + airDistance)) (DensityByAir m p)
+density-holds m p =
+    let v = byAir m (p .d) in
+    record {
+      only = λ e.
+          let z = both (leb (p .rho) (v + airDistance)) (leb v (p .rho + airDistance)) e in
+          let low = leb-true (p .rho) (v + airDistance) (z .0) in
+          let high = leb-true v (p .rho + airDistance) (z .1) in
+          record { proper = (omega arith, omega arith); below = omega arith; above = omega arith };
+      always = λ w. rw (le-leb (p .rho) (v + airDistance) (omega (arith, w .below)), le-leb v (p .rho + airDistance) (omega (arith, w .above)));
+    }
+
+-- a gas, from the test of its density
+pub gas-holds : (gas : Gas) {b : Bool} → permitted (gas .combustion) (gas .metering) ≡ true → Proper (numbers (gas .properties)) →
+    Tells b (DensityByAir (gas .metering) (numbers (gas .properties))) → Tells b (SoundGas gas)
+gas-holds gas pair properties t =
+    record { only = λ y. record { pair = pair; properties = properties; air = t .only y }; always = λ s. t .always (s .air) }
 
 -- volume × value by the two digits of the volume: `high` is the first one times the value, and `share` the unit without the base
 module _ (u v x : ℕ) (unit : RegisterUnit u) where

@@ -12,10 +12,11 @@ ghost use mathlib.Core.Path.{_≡_};
 ghost use Prim.Native.Nat.{_*_, _^_, _≤_, _<_};
 ghost use lib.ListN.{length, replicate};
 ghost use Rattle.records.specs.Conditions.{permitted};
-ghost use Rattle.properties.specs.Bounds.{Proper};
-ghost use Rattle.meter.specs.State.{mostTotal, nothingBooked, SoundRegister, SoundTotals};
+ghost use Rattle.properties.specs.Bounds.{Proper, DensityByAir};
+ghost use Rattle.properties.specs.Quantities.{Bounded};
+ghost use Rattle.meter.specs.State.{mostTotal, nothingBooked, SoundRegister, SoundTotals, SoundGas};
 ghost use Rattle.meter.specs.Calls.{booked};
-ghost use Rattle.lent_meter.specs.Words.{totalsIn, sixIn};
+ghost use Rattle.lent_meter.specs.Words.{totalsIn, sixIn, gasIn};
 ghost use Rattle.lent_meter.specs.Lent.{LentRow, EachLent};
 ghost use Rattle.lent_meter.specs.Check.{Tells, RegisterUnit, between, withinRanges, atMost};
 
@@ -74,7 +75,7 @@ fn within_ranges(row: &Row) -> bool
         & between(WobbeIndex::FLOOR, row[words::W], WobbeIndex::BOUND)
 }
 
-// Whether the properties in a row are those of a gas.
+// Whether the properties in a row lie in their ranges, with Hi not above Hs and the index of Hs and d.
 fn holds_properties(row: &Row) -> bool
     ensures { λ r. ⌜ Tells r (Proper (sixIn (now (row .entry)))) ⌝ }
 {
@@ -83,6 +84,29 @@ fn holds_properties(row: &Row) -> bool
     }
     (row[words::HI] <= row[words::HS])
         & (row[words::W] == steps::index(row[words::HS], row[words::D]))
+}
+
+// Whether rho in a row is d times the density of air, from the metering temperature in °C.
+fn holds_density(row: &Row, metering: u8) -> bool
+    requires { ⌜ Bounded (sixIn (now row)) ⌝ }
+    ensures { λ r. ⌜ Tells r (DensityByAir metering (sixIn (now (row .entry)))) ⌝ }
+{
+    let rho = row[words::RHO];
+    let by_air = steps::by_air(metering, row[words::D]);
+    (rho <= by_air + steps::AIR_DISTANCE) & (by_air <= rho + steps::AIR_DISTANCE)
+}
+
+// Whether the pair and the properties in a row are those of a gas.
+fn holds_gas(row: &Row) -> bool
+    ensures { λ r. ⌜ Tells r (SoundGas (gasIn (now (row .entry)))) ⌝ }
+{
+    if !pair_holds(row[words::COMBUSTION], row[words::METERING]) {
+        return false;
+    }
+    if !holds_properties(row) {
+        return false;
+    }
+    holds_density(row, row[words::METERING] as u8)
 }
 
 // Volume × value as a register, `unit` of whose rest make one whole.
@@ -142,10 +166,7 @@ fn holds_stream(row: &Row) -> bool
     if all_zero(row) {
         return true;
     }
-    (row[words::ANALYSED] == 1)
-        & pair_holds(row[words::COMBUSTION], row[words::METERING])
-        & holds_properties(row)
-        & holds_totals(row)
+    (row[words::ANALYSED] == 1) & holds_gas(row) & holds_totals(row)
 }
 
 // Whether each row holds a stream.

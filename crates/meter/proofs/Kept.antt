@@ -17,7 +17,7 @@ use Rattle.records.proofs.RoundTrips.{accepted-head}
 use Rattle.records.proofs.Accepted.{acceptable}
 use Rattle.properties.specs.Bounds.{calorificLow}
 use Rattle.properties.specs.Quantities.{calorificBound}
-use Rattle.properties.proofs.Gas.{proper}
+use Rattle.properties.proofs.Gas.{proper, density-by-air}
 use Rattle.meter.specs.declared.InForce.{InForce}
 use Rattle.meter.specs.declared.InForce.the-variants.{Nothing, Known}
 use Rattle.meter.specs.declared.Register.{Register}
@@ -64,7 +64,7 @@ analysis-keeps m k bs v after gives h =
     let old = h .each k (c .stream) in
     let gas = acceptable bs (c .clear) in
     record {
-      analysis = record { pair = accepted-head bs (c .clear) .pair; properties = proper (contentsIn bs) gas };
+      analysis = record { pair = accepted-head bs (c .clear) .pair; properties = proper (contentsIn bs) gas; air = density-by-air (contentsIn bs) gas };
       totals = old .totals;
     })
   where

@@ -4,7 +4,7 @@ use mathlib.Core.Bool.{true}
 use Prim.Native.Nat.{ℕ, _+_, _*_, _≤_, _<_}
 use lib.ListN.{length, getD, set, replicate}
 use Rattle.records.specs.Conditions.{permitted}
-use Rattle.properties.specs.Bounds.{calorificLow, Proper}
+use Rattle.properties.specs.Bounds.{calorificLow, Proper, DensityByAir}
 use Rattle.properties.specs.Quantities.{calorificBound}
 use Rattle.properties.specs.Answers.{numbers}
 use Rattle.meter.specs.declared.Gas.{Gas}
@@ -69,10 +69,12 @@ pub record SoundTotals (t : StreamTotals) : Type 0 where
   pub volume : t .volume ≤ mostTotal
   pub superior : SoundRegister perMJ calorificLow calorificBound (t .volume) (t .superior)
 
--- what holds of every gas in force: the pair is permitted, and the properties are those of an accepted record as far as `Proper` tells
+-- what holds of every gas in force: the pair is permitted, and the properties are those of an accepted record as far as `Proper` and
+-- `DensityByAir` tell
 pub record SoundGas (gas : Gas) : Type 0 where
   pub pair : permitted (gas .combustion) (gas .metering) ≡ true
   pub properties : Proper (numbers (gas .properties))
+  pub air : DensityByAir (gas .metering) (numbers (gas .properties))
 
 -- what holds of a stream's totals beside its analysis: with none, they are as made
 abbrev pub SoundAnalysis : InForce → StreamTotals → Type 0

@@ -17,6 +17,7 @@ use super::fraction::Fraction;
 use super::record::check;
 use super::table::{MASS, TABLE};
 use loonstool::Properties;
+use std::ops::{Add, Div};
 
 const GIGA: u64 = 1_000_000_000;
 
@@ -109,7 +110,21 @@ pub fn index(hs: u64, d: u64) -> u64 {
     near(hs * GIGA, root)
 }
 
+/// The density of air by the numbers of steps 4 and 5, unit 10^-9 kg/m³.
+pub fn air_density(conditions: &Conditions) -> u64 {
+    let n = 10_132_500 * 289_626_000 * u128::from(GIGA);
+    near(n, (conditions.d * conditions.air).into()) as u64
+}
+
+/// d times the density of air, unit 10^-8 kg/m³.
+pub fn by_air(d: u64, conditions: &Conditions) -> u64 {
+    near(d * air_density(conditions), GIGA)
+}
+
 /// The whole number nearest to n / q, halves upward.
-fn near(n: u64, q: u64) -> u64 {
-    (n + q / 2) / q
+fn near<N>(n: N, q: N) -> N
+where
+    N: Copy + From<u8> + Add<Output = N> + Div<Output = N>,
+{
+    (n + q / 2.into()) / q
 }

@@ -3,8 +3,12 @@
 
 use super::conditions::Conditions;
 use super::meter::{InForce, Meter, Stream, GREATEST_TOTAL, MEGAJOULE};
-use super::properties::{index, six};
+use super::properties::{by_air, index, six};
 use loonstool::{Properties, Words, STREAM_WORDS};
+
+/// The most that rho differs from d times the density of air: 2 for rho, 2 for
+/// d, which is 2.6 of rho's unit, and what d times that density is rounded by.
+const AIR_DISTANCE: u128 = 5;
 
 /// The words of a meter.
 pub fn words_of(meter: &Meter) -> Words {
@@ -37,10 +41,13 @@ fn holds_a_stream(row: [u128; STREAM_WORDS]) -> bool {
     let [analysed, combustion, metering, z, hs, hi, rho, d, w, volume, whole, rest] = row;
     let floors = six(&Properties::FLOORS).map(u128::from);
     let ceilings = six(&Properties::CEILINGS).map(u128::from);
-    let within = |six: [u128; 6]| {
+    let within = |conditions: Conditions| {
+        let six = [z, hs, hi, rho, d, w];
         let between = |i: usize| (floors[i]..=ceilings[i]).contains(&six[i]);
-        let [_, hs, hi, _, d, w] = six;
-        (0..6).all(between) && hi <= hs && w == index(hs as u64, d as u64).into()
+        (0..6).all(between)
+            && hi <= hs
+            && rho.abs_diff(by_air(d as u64, &conditions).into()) <= AIR_DISTANCE
+            && w == index(hs as u64, d as u64).into()
     };
     // Every dm³ was metered at an Hs between its floor and its ceiling.
     let energy = whole * u128::from(MEGAJOULE) + rest;
@@ -48,8 +55,7 @@ fn holds_a_stream(row: [u128; STREAM_WORDS]) -> bool {
         // Nothing is metered without an analysis.
         0 => row == [0; STREAM_WORDS],
         1 => {
-            is_permitted(combustion, metering)
-                && within([z, hs, hi, rho, d, w])
+            permitted(combustion, metering).is_some_and(within)
                 && volume <= GREATEST_TOTAL.into()
                 && rest < MEGAJOULE.into()
                 && (volume * floors[1]..=volume * ceilings[1]).contains(&energy)
@@ -58,11 +64,8 @@ fn holds_a_stream(row: [u128; STREAM_WORDS]) -> bool {
     }
 }
 
-fn is_permitted(combustion: u128, metering: u128) -> bool {
-    match (u8::try_from(combustion), u8::try_from(metering)) {
-        (Ok(combustion), Ok(metering)) => Conditions::of(combustion, metering).is_some(),
-        _ => false,
-    }
+fn permitted(combustion: u128, metering: u128) -> Option<Conditions> {
+    Conditions::of(combustion.try_into().ok()?, metering.try_into().ok()?)
 }
 
 /// The meter of words that hold one.

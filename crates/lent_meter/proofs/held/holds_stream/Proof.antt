@@ -25,12 +25,10 @@ returns c = let z = c .before in tells-true (blank-holds (row z) (z .all-zero .e
 
 returns-2 : tie.Need-returns-2
 returns-2 c =
-    let b = c .before in
-    let p = b .before in
-    let e = p .before .before .before .before in
+    let g = c .before in
+    let e = g .before .before in
     let z = e .before in
-    row-holds (row z) (long z) (λ h. untold (z .all-zero .ensures) (e .if1 .left) (h ∙ sym (zeros z))) (p .pair-holds .ensures) (b .holds-properties .ensures)
-    (c .holds-totals .ensures)
+    row-holds (row z) (long z) (λ h. untold (z .all-zero .ensures) (e .if1 .left) (h ∙ sym (zeros z))) (g .holds-gas .ensures) (c .holds-totals .ensures)
 
 pub holds-stream-spec : {M : Type 1} → statement M
 holds-stream-spec =
@@ -39,9 +37,6 @@ holds-stream-spec =
     (λ c κs. search needs)
     returns
     (λ c. search needs)
-    (λ c. search needs)
-    (λ c. search needs)
-    (λ c κs. search needs)
     (λ c κs. search needs)
     (λ c κs. search needs)
     returns-2)
