@@ -484,6 +484,23 @@ static void try_energy(size_t stream, uint64_t heat)
     memcpy(words, saved.words[stream], sizeof saved.words[stream]);
 }
 
+/* Hs and d at their limits, with rho and W as they then are, and Hi at its lowest. */
+static void try_limits(size_t stream)
+{
+    uint64_t *words = meter->words[stream];
+    const uint64_t hs[] = {lowest[HS] - 1, lowest[HS], highest[HS], highest[HS] + 1};
+    const uint64_t d[] = {lowest[D] - 1, lowest[D], highest[D], highest[D] + 1};
+    for (size_t i = 0; i < 16; i++) {
+        words[HS] = hs[i / 4];
+        words[HI] = lowest[HI];
+        words[D] = d[i % 4];
+        words[RHO] = by_air(words[METERING], words[D]);
+        words[W] = index_of(words[HS], words[D]);
+        expect_check("Hs and d at their limits", i);
+    }
+    memcpy(words, saved.words[stream], sizeof saved.words[stream]);
+}
+
 static void try_pairs(size_t stream)
 {
     uint64_t *words = meter->words[stream];
@@ -505,6 +522,7 @@ static void try_damages(void)
             try_word(stream, word);
         try_energy(stream, lowest[HS]);
         try_energy(stream, highest[HS]);
+        try_limits(stream);
         try_pairs(stream);
     }
     expect(memcmp(meter, &saved, sizeof saved) == 0, "the damages were undone", 0);

@@ -13,7 +13,7 @@ use cases::{every_line, record, K1, K2};
 use loonstool::{Meter, NotAMeter, Properties, Words, STREAMS, STREAM_WORDS};
 use plain::conditions::Conditions;
 use plain::meter::{InForce, GREATEST_TOTAL, GREATEST_VOLUME, MEGAJOULE};
-use plain::properties::{air_density, by_air};
+use plain::properties::{air_density, by_air, index};
 use plain::words::{hold_a_meter, meter_of, words_of};
 use records::{Random, PAIRS};
 
@@ -245,6 +245,59 @@ fn density_at_its_distance() {
     }
     counts.print("density at its distance", 12);
     assert_eq!((counts.accepted, counts.refused), (6 * 11, 6 * 2));
+}
+
+/// Z, Hs, Hi and d put into words of the metered stream, with rho and, but for a difference, W as they then are.
+fn with_properties(meter: &mut plain::Meter, [z, hs, hi, d]: [u64; 4], more: i64) -> Words {
+    let gas = in_force(meter, DAMAGED);
+    let conditions = Conditions::of(gas.pair.0, gas.pair.1).expect("it is permitted");
+    let w = index(hs, d).wrapping_add_signed(more);
+    gas.six = [z, hs, hi, by_air(d, &conditions), d, w].map(|property| property as u32);
+    words_of(meter)
+}
+
+#[test]
+fn properties_at_their_limits() {
+    let (mut counts, mut meter) = (Counts::default(), metered());
+    let (low, high) = (Properties::FLOORS, Properties::CEILINGS);
+    let around = |low: u64, high: u64| [low - 1, low, low + 1, high - 1, high, high + 1];
+    let mut restore = |four, more| {
+        let words = with_properties(&mut meter, four, more);
+        counts.restore(&words, DAMAGED);
+    };
+    for hs in around(low.hs, high.hs) {
+        for d in around(low.d, high.d) {
+            for z in around(low.z, high.z) {
+                restore([z, hs, low.hi, d], 0);
+            }
+            for hi in [low.hi - 1, low.hi, hs - 1, hs, hs + 1, high.hi, high.hi + 1] {
+                restore([low.z, hs, hi, d], 0);
+            }
+            for more in [-1, 1] {
+                restore([low.z, hs, low.hi, d], more);
+            }
+        }
+    }
+    counts.print("properties at their limits", 50);
+}
+
+#[test]
+fn index_at_its_ceiling() {
+    let (mut counts, mut meter) = (Counts::default(), metered());
+    let (low, high) = (Properties::FLOORS, Properties::CEILINGS);
+    // The index falls with d, and is above its ceiling for the greatest Hs and the least d.
+    let least = (low.d..high.d).find(|d| index(high.hs, *d) <= high.w);
+    let least = least.expect("the index falls below its ceiling");
+    let mut tried = Vec::new();
+    for hs in high.hs - 20..=high.hs {
+        for d in least - 12..least + 12 {
+            tried.push(index(hs, d));
+            let words = with_properties(&mut meter, [low.z, hs, low.hi, d], 0);
+            counts.restore(&words, DAMAGED);
+        }
+    }
+    counts.print("index at its ceiling", 50);
+    assert!([high.w, high.w + 1].iter().all(|w| tried.contains(w)));
 }
 
 #[test]
