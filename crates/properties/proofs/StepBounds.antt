@@ -13,7 +13,7 @@ use Rattle.rounding.proofs.NearLaws.{near-half, near-z-half, at-most, at-least}
 use Rattle.rounding.proofs.RootLaws.{root-is, root-greatest, below-of-squares}
 use Rattle.components.specs.Bounds.{heatLow, heatHigh, massLow, massHigh, summationHigh}
 use Rattle.properties.specs.Bounds.{divisorLow, divisorHigh, airLow, airHigh, compressionLow, calorificLow, idealCalorificHigh, calorificHigh, densityLow, relativeLow, idealRelativeHigh, idealHigh, rootLow, wobbeLow, airDensity, airDensityHigh, byAir}
-use Rattle.properties.specs.Quantities.{densityBound, relativeBound, wobbeBound}
+use Rattle.properties.specs.Quantities.{relativeBound, wobbeBound}
 use Rattle.properties.specs.Chain.{forMetering, temperature, divisor, meteringPlace, combustionPlace, airFactor, tenth, idealCalorific, idealDensity, idealRelative, real, rootOf, wobbe}
 
 -- what holds of three numbers holds of the one chosen
@@ -53,7 +53,7 @@ air-density m = go (eqb m 0) (eqb m 15) refl refl
 pub air-density-high : (m : ℕ) → airDensity m ≤ airDensityHigh
 air-density-high m = rw (← air-density m) (chosen (λ (n : ℕ). n ≤ airDensityHigh) (omega arith) (omega arith) (omega arith) m)
 
-pub by-air-high : (m d : ℕ) → d ≤ relativeBound → byAir m d ≤ densityBound
+pub by-air-high : (m d : ℕ) → d ≤ relativeBound → byAir m d ≤ 10 ^ 9
 by-air-high m d h = at-most (near-half (d * airDensity m) (10 ^ 9) (omega arith)) (omega (arith, mul-le-mul h (air-density-high m)))
 
 pub metering-place : (m : ℕ) → meteringPlace m < 3
