@@ -417,9 +417,9 @@ static uint64_t by_air(uint64_t temperature, uint64_t d)
     return (uint64_t)((d * air + 500000000) / 1000000000);
 }
 
-/* Whether the words of a stream can be those of a meter: each lies between its lowest and its highest, Hi is not above Hs, rho differs by at
- * most 5 from d times the density of air, W is the index of Hs and d, and the energy lies between volume x the floor and volume x the ceiling
- * of Hs; without an analysis all are 0. */
+/* Whether the words of a stream can be those of a meter: each lies between its lowest and its highest, Hi is not above Hs, rho differs by
+ * at most 5 from d times the density of air, W is the index of Hs and d, and the energy lies between volume x the floor and volume x the
+ * ceiling of Hs; without an analysis all are 0. */
 static bool can_be(const uint64_t *words)
 {
     wide energy = (wide)words[ENERGY_MJ] * 1000000000 + words[ENERGY_REST];
