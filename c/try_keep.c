@@ -389,7 +389,7 @@ static void try_stuck(const struct loonstool_meter *newer)
 {
     uint64_t image[KEEP_WORDS];
     struct keep keep;
-    struct loonstool_meter found, after = *newer;
+    struct loonstool_meter found;
     unsigned refused = 0;
     memcpy(image, kept, sizeof image);
     for (size_t word = 0; word < KEEP_COPY_WORDS; word++) {
@@ -400,7 +400,8 @@ static void try_stuck(const struct loonstool_meter *newer)
         uint8_t number = keep_mend(&keep);
         refused += number == KEEP_LOST;
         expect(number == LOONSTOOL_ACCEPTED || number == KEEP_LOST, "a bit that sticks", word);
-        expect(restart(&found) == (number == KEEP_LOST ? KEEP_DAMAGED : KEEP_WHOLE) && same(&found, &after), "a bit that sticks", word);
+        expect(restart(&found) == (number == KEEP_LOST ? KEEP_DAMAGED : KEEP_WHOLE) && same(&found, newer), "a bit that sticks", word);
+        expect(found_counter == keep.counter, "a bit that sticks, and the counter", word);
         stuck_word = NEVER;
         memcpy(kept, image, sizeof image);
     }
