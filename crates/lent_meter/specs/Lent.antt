@@ -12,7 +12,7 @@ use Rattle.meter.specs.Conditions.{streamAnalysisOrder, streamMeteringOrder}
 use Rattle.meter.specs.Calls.{analysed, metered}
 use Rattle.lent_meter.specs.Words.{packedStream, packed}
 
--- a row holds a stream, and words hold a meter, of which holds what a contract may ask of one
+-- a row holds a sound stream, and words hold a sound meter
 pub record LentRow (row : List ℕ) : Type 0 where
   pub stream : Stream
   pub sound : SoundStream stream
@@ -30,7 +30,7 @@ pub record Lent (words : List (List ℕ)) : Type 0 where
 abbrev pub OnWords : (Meter → Outcome Meter) → List (List ℕ) → ℕ → List (List ℕ) → Type 0
 OnWords call before number after = (m : Meter) → Sound m → before ≡ packed m → Returns (mapped packed (call m)) before number after
 
--- and whatever the words are: the rows of the other streams are as they were, and after a refusal all of them
+-- whatever the words are, such a call leaves the rows of the other streams as they were, and a refusal leaves all of them
 pub record Leaves (k : ℕ) (before : List (List ℕ)) (number : ℕ) (after : List (List ℕ)) : Type 0 where
   pub others : (j : ℕ) → (j ≡ k → ⊥) → getD after j [] ≡ getD before j []
   pub refusal : (number ≡ 0 → ⊥) → after ≡ before
