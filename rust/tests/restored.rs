@@ -228,7 +228,7 @@ fn density_at_its_distance() {
     let mut counts = Counts::default();
     for (stream, (combustion, metering)) in PAIRS.into_iter().enumerate() {
         let conditions = Conditions::of(combustion, metering).expect("it is permitted");
-        // As the standard has it, in mg/m³.
+        // As formulas (B.6) to (B.8) of the standard have it, in mg/m³.
         let standard = match metering {
             0 => 1_292_923,
             15 => 1_225_410,

@@ -1,9 +1,8 @@
 -- What is shown of every lent meter.
-use mathlib.Core.Path.{_≡_, refl, sym, ap, _∙_}
+use mathlib.Core.Path.{_≡_, refl, sym, ap, subst, _∙_}
 use mathlib.Core.List.{List, [], _∷_, map}
 use Prim.Native.Nat.{ℕ, zero, suc}
 use lib.ListN.{getD}
-use lib.Seq.{getD-set-other}
 use Rattle.records.specs.Order.{Outcome, refused, accepted, decided, otherwise, mapped}
 use Rattle.records.specs.Answers.{numberOf}
 use Rattle.meter.specs.declared.InForce.{InForce}
@@ -17,7 +16,7 @@ use Rattle.meter.proofs.Kept.{fresh-is-sound, sound-after-analysis, sound-after
 use Rattle.lent_meter.specs.Words.{packedTotals, analysisWords, packedStream, packed, gasIn, totalsIn}
 use Rattle.lent_meter.specs.Lent.{Lent, OnWords, Leaves}
 use Rattle.lent_meter.specs.Kept.{FreshIsLent, AnalysisKeepsLent, MeteringKeepsLent, PackedIsInjective}
-use Rattle.lent_meter.proofs.Outcomes.{with-row}
+use Rattle.lent_meter.proofs.Outcomes.{with-row, left-alone, leaves-others}
 
 pub fresh-is-lent : FreshIsLent
 fresh-is-lent = record { meter = freshMeter; sound = fresh-is-sound; holds = refl }
@@ -45,12 +44,8 @@ metering-keeps-lent k v n before after = keeps (λ (m : Meter). meteringOf m k v
 -- what a call with the number n, which replaces one stream where it is 0, leaves of words that hold a meter
 pub leaves-packed : (n : ℕ) (m : Meter) (k : ℕ) (s : Stream) →
     Leaves k (packed m) (numberOf (mapped packed (decided n (withStream m k s)))) (packed (otherwise m (decided n (withStream m k s))))
-leaves-packed zero m k s =
-    record {
-      others = λ j other. ap (λ (w : List (List ℕ)). getD w j []) (sym (with-row (m .streams) k s)) ∙ getD-set-other (packed m) k j (packedStream s) [] other;
-      refusal = λ h. elim (h refl) [ ];
-    }
-leaves-packed (suc n) m k s = record { others = λ j other. refl; refusal = λ h. refl }
+leaves-packed zero m k s = subst (Leaves k (packed m) 0) (with-row (m .streams) k s) (leaves-others k (packed m) (λ h. elim (h refl) [ ]))
+leaves-packed (suc n) m k s = left-alone k (packed m) (suc n)
 
 -- the stream of a row
 abbrev analysisIn : ℕ → List ℕ → InForce

@@ -29,7 +29,7 @@ pub fn row_of(stream: &Stream) -> [u64; STREAM_WORDS] {
     ]
 }
 
-/// Whether holds of words what the library's check tests, and what holds of
+/// Whether what the library's check tests holds of words: it does of those of
 /// every meter, as made or as its calls left it. Floors and ceilings are the
 /// library's: the paper gives none.
 pub fn hold_a_meter(words: &Words) -> bool {
