@@ -2,7 +2,7 @@
 use mathlib.Core.Path.{_≡_, refl, sym, subst, _∙_}
 use mathlib.Core.Bool.{Bool, true, false, cond}
 use mathlib.Core.List.{List}
-use Prim.Native.Nat.{ℕ, zero, suc, _+_, _≤_}
+use Prim.Native.Nat.{ℕ, zero, suc, _+_, _*_, _≤_}
 use native.Mathlib.Omega.{arith}
 use borrow.Author.Tests.{le-ltb, ltb-false, eqb-false}
 use lib.Dec.{eqb}
@@ -23,12 +23,12 @@ use Rattle.meter.specs.declared.InForce.the-variants.{Nothing, Known}
 use Rattle.meter.specs.declared.Register.{Register}
 use Rattle.meter.specs.declared.Stream.{Stream}
 use Rattle.meter.specs.declared.Meter.{Meter}
-use Rattle.meter.specs.State.{lastStream, mostTotal, SoundRegister, SoundTotals, SoundGas, SoundAnalysis, SoundStream, Sound, freshStream, streamAt, withStream, perMJ}
+use Rattle.meter.specs.State.{lastStream, mostTotal, SoundEnergy, SoundTotals, SoundGas, SoundAnalysis, SoundStream, Sound, freshStream, streamAt, withStream, perMJ}
 use Rattle.meter.specs.Conditions.{analysisOrder, meteringOrder, meanOrder}
-use Rattle.meter.specs.Calls.{analysed, withVolume, metered, afterAnalysis, afterMetering, meanIn, meanReading}
+use Rattle.meter.specs.Calls.{analysed, booked, withVolume, metered, afterAnalysis, afterMetering, meanIn, meanReading}
 use Rattle.meter.specs.Kept.{FreshIsSound, AnalysisKeeps, MeteringKeeps, AnalysisLeavesOthers, MeteringLeavesOthers, ZeroIsAccepted, NoMeanAboveCeiling}
 use Rattle.meter.proofs.Orders.{clear-analysis, clear-metering}
-use Rattle.meter.proofs.Registers.{sound-booked}
+use Rattle.meter.proofs.Registers.{sound-booked, booked-at-most}
 use Rattle.meter.proofs.Streams.{at-made, at-put}
 use Rattle.meter.proofs.Means.{mean-bounded}
 
@@ -71,16 +71,24 @@ analysis-keeps m k bs v after gives h =
     s : Stream
     s = streamAt m k
 
+-- an energy with a volume w at a value x
+sound-energy : {v : ℕ} (w : ℕ) {x : ℕ} (e : Register) → SoundEnergy v e → calorificLow ≤ x → x ≤ calorificBound → SoundEnergy (v + w) (booked perMJ e (w * x))
+sound-energy {v} w {x} e = sound-booked perMJ (omega arith) calorificLow calorificBound v w x e
+
 sound-metered : (s : Stream) (w : ℕ) (a : InForce) → s .analysis ≡ a → SoundStream s → s .totals .volume + w ≤ mostTotal → SoundStream (withVolume a w s)
 sound-metered s w Nothing is old total = old
 sound-metered s w (Known gas) is old total =
     let t = s .totals in
     let b : SoundGas gas = subst (λ (a : InForce). SoundAnalysis a t) is (old .analysis) in
+    let o = old .totals in
+    let p = b .properties in
     record {
       analysis = rw is b;
       totals = record {
         volume = total;
-        superior = sound-booked perMJ (omega arith) calorificLow calorificBound (t .volume) w _ (t .superior) (old .totals .superior) (b .properties .floored .Hs) (b .properties .bounded .Hs);
+        superior = sound-energy w (t .superior) (o .superior) (p .floored .Hs) (p .bounded .Hs);
+        inferior = sound-energy w (t .inferior) (o .inferior) (p .floored .Hi) (p .bounded .Hi);
+        order = booked-at-most perMJ (omega arith) w (t .inferior) (t .superior) (o .order) (p .order);
       };
     }
 
@@ -122,7 +130,7 @@ pub zero-is-accepted : ZeroIsAccepted
 zero-is-accepted m k h b some =
     rw (le-ltb lastStream k b, some, le-ltb mostTotal (streamAt m k .totals .volume + 0) (omega (arith, h .each k b .totals .volume)))
 
-mean-at-most : (m : Meter) (k h : ℕ) (e : Register) → Sound m → (SoundTotals (streamAt m k .totals) → SoundRegister perMJ calorificLow calorificBound (streamAt m k .totals .volume) e) →
+mean-at-most : (m : Meter) (k h : ℕ) (e : Register) → Sound m → (SoundTotals (streamAt m k .totals) → SoundEnergy (streamAt m k .totals .volume) e) →
     meanReading k (streamAt m k) e ≡ accepted h → h ≤ calorificBound
 mean-at-most m k h r sound of e =
     let s = streamAt m k in
@@ -134,4 +142,8 @@ mean-at-most m k h r sound of e =
     subst (λ (x : ℕ). x ≤ calorificBound) (a .1) (mean-bounded r v (of l) (l .volume) (omega arith))
 
 pub no-mean-above-ceiling : NoMeanAboveCeiling
-no-mean-above-ceiling m k h sound = mean-at-most m k h (streamAt m k .totals .superior) sound (λ l. l .superior)
+no-mean-above-ceiling =
+    record {
+      superior = λ m k h sound. mean-at-most m k h (streamAt m k .totals .superior) sound (λ l. l .superior);
+      inferior = λ m k h sound. mean-at-most m k h (streamAt m k .totals .inferior) sound (λ l. l .inferior);
+    }

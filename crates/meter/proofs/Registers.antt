@@ -31,3 +31,7 @@ module _ (u : ℕ) (p : 0 < u) where
         least = omega (arith, is, s .least, mul-le-mul-left w low);
         most = omega (arith, is, s .most, mul-le-mul-left w high);
       }
+
+  -- a register that holds no more than another, with a volume w at a value x no more than the other's y
+  pub booked-at-most : (w : ℕ) {x y : ℕ} (e f : Register) → amountIn u e ≤ amountIn u f → x ≤ y → amountIn u (booked u e (w * x)) ≤ amountIn u (booked u f (w * y))
+  booked-at-most w {x} {y} e f h low = omega (arith, amount-booked e (w * x), amount-booked f (w * y), mul-le-mul-left w low)

@@ -32,12 +32,13 @@ analysed s bs = withGas s (gasOf bs)
 abbrev pub booked : ℕ → Register → ℕ → Register
 booked u e n = record { whole = (amountIn u e + n) / u; rest = (amountIn u e + n) % u }
 
--- totals with v dm³ more, and v × Hs mJ more
+-- totals with v dm³ more, and v × Hs and v × Hi mJ more
 abbrev pub added : StreamTotals → Properties → ℕ → StreamTotals
 added t p v =
     record {
       volume = t .volume + v;
       superior = booked perMJ (t .superior) (v * p .hs .value);
+      inferior = booked perMJ (t .inferior) (v * p .hi .value);
     }
 
 -- a stream with v dm³ more, by the analysis in force; with none, 16 has refused the call
@@ -74,5 +75,9 @@ meanIn e v = near (amountIn perMJ e) v
 abbrev pub meanReading : ℕ → Stream → Register → Outcome ℕ
 meanReading k s e = decided (firstOf (meanOrder k s)) (meanIn e (s .totals .volume))
 
+-- the mean of the superior energy, and that of the inferior
 abbrev pub meanOf : Meter → ℕ → Outcome ℕ
 meanOf m k = meanReading k (streamAt m k) (streamAt m k .totals .superior)
+
+abbrev pub meanInferiorOf : Meter → ℕ → Outcome ℕ
+meanInferiorOf m k = meanReading k (streamAt m k) (streamAt m k .totals .inferior)

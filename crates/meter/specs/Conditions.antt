@@ -68,7 +68,7 @@ totalsOrder k = (13, streamAbove k) ∷ []
 abbrev pub meanOrder : ℕ → Stream → Order
 meanOrder k s = (13, streamAbove k) ∷ zeroOrder (totalZero (s .totals .volume))
 
--- analysis tries 13, 1 to 12, 14; metering 13, 15, 16, 17; totals 13; mean 13, 18
+-- analysis tries 13, 1 to 12, 14; metering 13, 15, 16, 17; totals 13; each mean 13, 18
 abbrev pub AnalysisNumbers : Type 0
 AnalysisNumbers = (k : ℕ) (bs : List ℕ) (s : Stream) → numbersOf (analysisOrder k bs s) ≡ 13 ∷ recordNumbers ++ (14 ∷ [])
 

@@ -5,13 +5,13 @@ use mathlib.Core.Bool.{false}
 use mathlib.Core.List.{List}
 use Prim.Native.Nat.{ℕ, _≤_}
 use Rattle.records.specs.declared.Verdict.{Verdict}
-use Rattle.records.specs.Order.{accepted, firstOf}
+use Rattle.records.specs.Order.{Outcome, accepted, firstOf}
 use Rattle.records.specs.Answers.{Gives}
 use Rattle.properties.specs.Quantities.{calorificBound}
 use Rattle.meter.specs.declared.Meter.{Meter}
 use Rattle.meter.specs.State.{lastStream, Sound, freshMeter, streamAt}
 use Rattle.meter.specs.Conditions.{noAnalysis, meteringOrder}
-use Rattle.meter.specs.Calls.{analysisOf, meteringOf, meanOf}
+use Rattle.meter.specs.Calls.{analysisOf, meteringOf, meanOf, meanInferiorOf}
 
 abbrev pub FreshIsSound : Type 0
 FreshIsSound = Sound freshMeter
@@ -38,6 +38,10 @@ MeteringLeavesOthers =
 abbrev pub ZeroIsAccepted : Type 0
 ZeroIsAccepted = (m : Meter) (k : ℕ) → Sound m → k ≤ lastStream → noAnalysis (streamAt m k .analysis) ≡ false → firstOf (meteringOrder k 0 (streamAt m k)) ≡ 0
 
--- no mean is above the ceiling of a calorific value
-abbrev pub NoMeanAboveCeiling : Type 0
-NoMeanAboveCeiling = (m : Meter) (k h : ℕ) → Sound m → meanOf m k ≡ accepted h → h ≤ calorificBound
+-- neither mean is above the ceiling of a calorific value
+abbrev pub AtMostCeiling : (Meter → ℕ → Outcome ℕ) → Type 0
+AtMostCeiling reading = (m : Meter) (k h : ℕ) → Sound m → reading m k ≡ accepted h → h ≤ calorificBound
+
+pub record NoMeanAboveCeiling : Type 0 where
+  pub superior : AtMostCeiling meanOf
+  pub inferior : AtMostCeiling meanInferiorOf

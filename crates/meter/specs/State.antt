@@ -34,9 +34,9 @@ perMJ = 1000000000
 abbrev pub nothingBooked : Register
 nothingBooked = record { whole = 0; rest = 0 }
 
--- no analysis, volume 0, energy 0
+-- no analysis, volume 0, both energies 0
 abbrev pub freshTotals : StreamTotals
-freshTotals = record { volume = 0; superior = nothingBooked }
+freshTotals = record { volume = 0; superior = nothingBooked; inferior = nothingBooked }
 
 abbrev pub freshStream : Stream
 freshStream = record { analysis = Nothing; totals = freshTotals }
@@ -64,10 +64,16 @@ pub record SoundRegister (u floor ceiling v : ℕ) (e : Register) : Type 0 where
   pub least : v * floor ≤ amountIn u e
   pub most : amountIn u e ≤ v * ceiling
 
+-- what holds of an energy at a volume total v
+abbrev pub SoundEnergy : ℕ → Register → Type 0
+SoundEnergy = SoundRegister perMJ calorificLow calorificBound
+
 -- what holds of the totals of every stream
 pub record SoundTotals (t : StreamTotals) : Type 0 where
   pub volume : t .volume ≤ mostTotal
-  pub superior : SoundRegister perMJ calorificLow calorificBound (t .volume) (t .superior)
+  pub superior : SoundEnergy (t .volume) (t .superior)
+  pub inferior : SoundEnergy (t .volume) (t .inferior)
+  pub order : amountIn perMJ (t .inferior) ≤ amountIn perMJ (t .superior)
 
 -- what holds of every gas in force: the pair is permitted, and the properties are those of an accepted record as far as `Proper` and
 -- `DensityByAir` tell

@@ -1,4 +1,4 @@
-// The meter of document 01: sixteen streams, each with the analysis in force, a volume total and an energy register. Every call on a
+// The meter of document 01: sixteen streams, each with the analysis in force, a volume total and two energy registers. Every call on a
 // meter as made or as its calls left it, with any stream, record and volume, gets its answer or the one number of its refusal. A call
 // that may change the meter takes it by value and gives it back, as it was where the call is refused.
 use properties::Answer;
@@ -9,12 +9,11 @@ ghost use mathlib.Core.Path.{_≡_};
 ghost use Prim.Native.Nat.{_+_, _*_, _^_, _≤_, _<_};
 ghost use Rattle.records.specs.Order.{firstOf, decided};
 ghost use Rattle.records.specs.Answers.{Gives};
-ghost use Rattle.properties.specs.Bounds.{calorificLow};
-ghost use Rattle.properties.specs.Quantities.{calorificBound, Bounded};
+ghost use Rattle.properties.specs.Quantities.{Bounded};
 ghost use Rattle.properties.specs.Answers.{numbers};
-ghost use Rattle.meter.specs.State.{mostVolume, mostTotal, perMJ, freshMeter, SoundRegister, SoundTotals, SoundStream, Sound};
+ghost use Rattle.meter.specs.State.{mostVolume, mostTotal, freshMeter, SoundEnergy, SoundTotals, SoundStream, Sound};
 ghost use Rattle.meter.specs.Conditions.{pairDiffers, noAnalysis, totalZero, pairOrder, volumeOrder, zeroOrder};
-ghost use Rattle.meter.specs.Calls.{withGas, booked, added, metered, analysisOf, meteringOf, totalsOf, meanIn, meanOf};
+ghost use Rattle.meter.specs.Calls.{withGas, booked, added, metered, analysisOf, meteringOf, totalsOf, meanIn, meanOf, meanInferiorOf};
 ghost use Rattle.meter.specs.Answers.{totalsMeaning, meanMeaning};
 
 // The last stream.
@@ -45,10 +44,11 @@ pub struct Register {
     pub rest: u64,
 }
 
-// The totals of a stream: the volume in dm³, and the energy by the superior calorific value.
+// The totals of a stream: the volume in dm³, and the energies by the superior and by the inferior calorific value.
 pub struct StreamTotals {
     pub volume: u64,
     pub superior: Register,
+    pub inferior: Register,
 }
 
 // A stream: the analysis in force, and the totals.
@@ -89,6 +89,7 @@ pub fn fresh() -> Meter
         totals: StreamTotals {
             volume: 0,
             superior: Register { whole: 0, rest: 0 },
+            inferior: Register { whole: 0, rest: 0 },
         },
     };
     Meter {
@@ -200,16 +201,18 @@ pub fn booked(before: Register, unit: u64, volume: u64, value: u64) -> Register
     }
 }
 
-// The totals with the volume, and volume × Hs in mJ, added.
+// The totals with the volume, and volume × Hs and volume × Hi in mJ, added.
 pub fn added(before: StreamTotals, properties: Properties, volume: u64) -> StreamTotals
     requires { ⌜ SoundTotals before × Bounded (numbers properties) ⌝ }
     requires { ⌜ (volume ≤ mostVolume) × (before .volume + volume ≤ mostTotal) ⌝ }
     ensures { λ r. ⌜ r ≡ added before properties volume ⌝ }
 {
     let superior = booked(before.superior, PER_MJ, volume, properties.hs.value());
+    let inferior = booked(before.inferior, PER_MJ, volume, properties.hi.value());
     StreamTotals {
         volume: before.volume + volume,
         superior,
+        inferior,
     }
 }
 
@@ -251,7 +254,7 @@ pub fn metering(mut meter: Meter, stream: usize, volume: u64) -> Changed
     }
 }
 
-// The volume and the energy of a stream.
+// The volume and the energies of a stream.
 pub fn totals(meter: Meter, stream: usize) -> TotalsAnswer
     ensures { λ r. ⌜ totalsMeaning r ≡ totalsOf meter stream ⌝ }
 {
@@ -265,7 +268,7 @@ pub fn totals(meter: Meter, stream: usize) -> TotalsAnswer
 
 // The mean calorific value of an energy over a volume, in J/m³, or 18.
 pub fn mean_over(energy: Register, volume: u64) -> MeanAnswer
-    requires { ⌜ SoundRegister perMJ calorificLow calorificBound volume energy × (volume ≤ mostTotal) ⌝ }
+    requires { ⌜ SoundEnergy volume energy × (volume ≤ mostTotal) ⌝ }
     ensures { λ r. ⌜ meanMeaning r ≡ decided (firstOf (zeroOrder (totalZero volume))) (meanIn energy volume) ⌝ }
 {
     if volume == 0 {
@@ -278,7 +281,7 @@ pub fn mean_over(energy: Register, volume: u64) -> MeanAnswer
     )))
 }
 
-// The mean calorific value of what a stream has taken, in J/m³.
+// The mean superior calorific value of what a stream has taken, in J/m³.
 pub fn mean(meter: Meter, stream: usize) -> MeanAnswer
     requires { ⌜ Sound meter ⌝ }
     ensures { λ r. ⌜ meanMeaning r ≡ meanOf meter stream ⌝ }
@@ -288,4 +291,16 @@ pub fn mean(meter: Meter, stream: usize) -> MeanAnswer
     }
     let s = meter.streams[stream];
     mean_over(s.totals.superior, s.totals.volume)
+}
+
+// The mean inferior calorific value of what a stream has taken, in J/m³.
+pub fn mean_inferior(meter: Meter, stream: usize) -> MeanAnswer
+    requires { ⌜ Sound meter ⌝ }
+    ensures { λ r. ⌜ meanMeaning r ≡ meanInferiorOf meter stream ⌝ }
+{
+    if LAST_STREAM < stream {
+        return MeanAnswer::Refused(13);
+    }
+    let s = meter.streams[stream];
+    mean_over(s.totals.inferior, s.totals.volume)
 }

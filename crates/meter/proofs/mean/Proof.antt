@@ -1,4 +1,4 @@
--- 13, or the energy over the volume.
+-- 13, or the superior energy over the volume.
 use borrow.Author.Tests.{lt-ltb, le-ltb}
 use borrow.Author.Needs.{needs}
 use Rattle.meter.proofs.mean.Statement.{statement}
