@@ -3,4 +3,5 @@ mod Rows
 mod Telling
 mod Tests
 mod Holding
+mod Means
 pub mod Kept

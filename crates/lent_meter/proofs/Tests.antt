@@ -15,7 +15,7 @@ use Rattle.properties.specs.Answers.{numbers}
 use Rattle.meter.specs.declared.Gas.{Gas}
 use Rattle.meter.specs.declared.Register.{Register}
 use Rattle.meter.specs.declared.StreamTotals.{StreamTotals}
-use Rattle.meter.specs.State.{mostTotal, perMJ, nothingBooked, amountIn, SoundRegister, SoundTotals, SoundGas}
+use Rattle.meter.specs.State.{mostTotal, perMJ, nothingBooked, amountIn, SoundRegister, SoundEnergy, SoundTotals, SoundGas}
 use Rattle.meter.specs.Calls.{booked}
 use Rattle.meter.proofs.Registers.{amount-booked}
 use Rattle.lent_meter.specs.Check.{Tells, RegisterUnit, between, withinRanges, atMost}
@@ -168,7 +168,11 @@ register-holds u floor ceiling v e least most some low high = go (ltb (e .rest) 
         }
     go false h = tells-false (λ s. omega (arith, ltb-false (e .rest) u h, s .rest))
 
--- totals, from the test of each register
-pub totals-hold : (t : StreamTotals) {b : Bool} → t .volume ≤ mostTotal → Tells b (SoundRegister perMJ calorificLow calorificBound (t .volume) (t .superior)) →
-    Tells b (SoundTotals t)
-totals-hold t low h = record { only = λ y. record { volume = low; superior = h .only y }; always = λ s. h .always (s .superior) }
+-- totals, from the test of each energy
+pub totals-hold : (t : StreamTotals) (s i : Bool) → t .volume ≤ mostTotal → Tells s (SoundEnergy (t .volume) (t .superior)) → Tells i (SoundEnergy (t .volume) (t .inferior)) →
+    Tells (s && i && atMost (t .inferior) (t .superior)) (SoundTotals t)
+totals-hold t true true low h g =
+    let order = amount-at-most perMJ (t .inferior) (t .superior) (g .only refl .rest) (h .only refl .rest) in
+    record { only = λ y. record { volume = low; superior = h .only refl; inferior = g .only refl; order = order .only y }; always = λ s. order .always (s .order) }
+totals-hold t false i low h g = tells-false (λ s. true≢false (sym (h .always (s .superior))))
+totals-hold t true false low h g = tells-false (λ s. true≢false (sym (g .always (s .inferior))))

@@ -1,4 +1,4 @@
--- A meter as the words that a caller lends: a row of 12 words for each of the 16 streams.
+-- A meter as the words that a caller lends: a row of 14 words for each of the 16 streams.
 use mathlib.Core.List.{List, [], _∷_, map}
 use Prim.Native.Nat.{ℕ}
 use lib.ListN.{getD, set}
@@ -11,9 +11,9 @@ use Rattle.meter.specs.declared.StreamTotals.{StreamTotals}
 use Rattle.meter.specs.declared.Stream.{Stream}
 use Rattle.meter.specs.declared.Meter.{Meter}
 
--- totals: the volume in dm³, and the energy as whole MJ and rest
+-- totals: the volume in dm³, and the superior and the inferior energy, each as whole MJ and rest
 abbrev pub packedTotals : StreamTotals → List ℕ
-packedTotals t = t .volume ∷ t .superior .whole ∷ t .superior .rest ∷ []
+packedTotals t = t .volume ∷ t .superior .whole ∷ t .superior .rest ∷ t .inferior .whole ∷ t .inferior .rest ∷ []
 
 -- a stream: 1, the pair, the properties, the totals
 abbrev pub gasWords : ℕ → ℕ → Six → List ℕ → List ℕ
@@ -48,7 +48,12 @@ abbrev pub gasIn : List ℕ → Gas
 gasIn row = record { combustion = getD row 1 0; metering = getD row 2 0; properties = quantities (sixIn row) }
 
 abbrev pub totalsIn : List ℕ → StreamTotals
-totalsIn row = record { volume = getD row 9 0; superior = record { whole = getD row 10 0; rest = getD row 11 0 } }
+totalsIn row =
+    record {
+      volume = getD row 9 0;
+      superior = record { whole = getD row 10 0; rest = getD row 11 0 };
+      inferior = record { whole = getD row 12 0; rest = getD row 13 0 };
+    }
 
 -- a row with another gas, and one with other totals; every other word as it was
 abbrev pub withGasWords : List ℕ → ℕ → ℕ → Six → List ℕ
@@ -56,4 +61,5 @@ withGasWords row combustion metering p =
     set (set (set (set (set (set (set (set (set row 0 1) 1 combustion) 2 metering) 3 (p .Z)) 4 (p .Hs)) 5 (p .Hi)) 6 (p .rho)) 7 (p .d)) 8 (p .W)
 
 abbrev pub withTotalsWords : List ℕ → StreamTotals → List ℕ
-withTotalsWords row t = set (set (set row 9 (t .volume)) 10 (t .superior .whole)) 11 (t .superior .rest)
+withTotalsWords row t =
+    set (set (set (set (set row 9 (t .volume)) 10 (t .superior .whole)) 11 (t .superior .rest)) 12 (t .inferior .whole)) 13 (t .inferior .rest)

@@ -14,7 +14,7 @@ ghost use lib.ListN.{length, replicate};
 ghost use Rattle.records.specs.Conditions.{permitted};
 ghost use Rattle.properties.specs.Bounds.{Proper, DensityByAir};
 ghost use Rattle.properties.specs.Quantities.{Bounded};
-ghost use Rattle.meter.specs.State.{mostTotal, nothingBooked, SoundRegister, SoundTotals, SoundGas};
+ghost use Rattle.meter.specs.State.{mostTotal, nothingBooked, SoundRegister, SoundEnergy, SoundTotals, SoundGas};
 ghost use Rattle.meter.specs.Calls.{booked};
 ghost use Rattle.lent_meter.specs.Words.{totalsIn, sixIn, gasIn};
 ghost use Rattle.lent_meter.specs.Lent.{LentRow, EachLent};
@@ -142,6 +142,20 @@ fn holds_register(register: Register, unit: u64, volume: u64, floor: u64, ceilin
         & at_most(register, product(unit, volume, ceiling))
 }
 
+// Whether an energy is one of a volume.
+fn holds_energy(energy: Register, volume: u64) -> bool
+    requires { ⌜ volume ≤ mostTotal ⌝ }
+    ensures { λ r. ⌜ Tells r (SoundEnergy volume energy) ⌝ }
+{
+    holds_register(
+        energy,
+        meter::PER_MJ,
+        volume,
+        CalorificValue::FLOOR,
+        CalorificValue::BOUND,
+    )
+}
+
 // Whether the totals in a row are those of a stream.
 fn holds_totals(row: &Row) -> bool
     ensures { λ r. ⌜ Tells r (SoundTotals (totalsIn (now (row .entry)))) ⌝ }
@@ -150,13 +164,9 @@ fn holds_totals(row: &Row) -> bool
     if meter::MOST_TOTAL < totals.volume {
         return false;
     }
-    holds_register(
-        totals.superior,
-        meter::PER_MJ,
-        totals.volume,
-        CalorificValue::FLOOR,
-        CalorificValue::BOUND,
-    )
+    holds_energy(totals.superior, totals.volume)
+        & holds_energy(totals.inferior, totals.volume)
+        & at_most(totals.inferior, totals.superior)
 }
 
 // Whether a row holds a stream: one without an analysis, or one with.

@@ -8,10 +8,13 @@ use meter::MeanAnswer;
 use words::Row;
 ghost use mathlib.Core.Path.{_≡_};
 ghost use Prim.Native.Nat.{ℕ};
+ghost use Rattle.records.specs.Order.{mapped};
+ghost use Rattle.records.specs.Answers.{Returns};
 ghost use Rattle.meter.specs.declared.Meter.{Meter};
 ghost use Rattle.meter.specs.declared.Stream.{Stream};
 ghost use Rattle.meter.specs.State.{freshMeter};
-ghost use Rattle.meter.specs.Calls.{analysisOf, meteringOf, totalsOf, meanOf};
+ghost use Rattle.meter.specs.Calls.{analysisOf, meteringOf, totalsOf, meanOf, meanInferiorOf};
+ghost use Rattle.meter.specs.Answers.{meanMeaning};
 ghost use Rattle.lent_meter.specs.Words.{packed, packedTotals};
 ghost use Rattle.lent_meter.specs.Lent.{Lent, LentRow, OnWords, Leaves, OnReading, OnRow, LeavesRow, streamAnalysis, streamMetering};
 ghost use Rattle.lent_meter.specs.Check.{Tells};
@@ -106,19 +109,38 @@ pub fn metering(words: &mut Words, stream: usize, volume: u64) -> u8
     metering_row(&mut words[stream], volume)
 }
 
-// The volume and the energy of a stream.
-pub fn totals(words: &Words, stream: usize, out: &mut [u64; 3]) -> u8
+// The volume and the energies of a stream.
+pub fn totals(words: &Words, stream: usize, out: &mut [u64; 5]) -> u8
     ensures { λ r. ⌜ OnReading packedTotals (λ (m : Meter). totalsOf m stream) (now (words .entry)) (now (out .entry)) r (now (out .exit)) ⌝ }
 {
     if meter::LAST_STREAM < stream {
         return 13;
     }
     let found = words::totals_in(&words[stream]);
-    *out = [found.volume, found.superior.whole, found.superior.rest];
+    *out = [
+        found.volume,
+        found.superior.whole,
+        found.superior.rest,
+        found.inferior.whole,
+        found.inferior.rest,
+    ];
     0
 }
 
-// The mean calorific value of what a stream has taken, in J/m³.
+// The number of an answer, and its mean into lent memory.
+fn give(answer: MeanAnswer, out: &mut u64) -> u8
+    ensures { λ r. ⌜ Returns (mapped (λ (h : ℕ). h) (meanMeaning answer)) (now (out .entry)) r (now (out .exit)) ⌝ }
+{
+    match answer {
+        MeanAnswer::Refused(number) => number,
+        MeanAnswer::Accepted(h) => {
+            *out = h.value();
+            0
+        }
+    }
+}
+
+// The mean superior calorific value of what a stream has taken, in J/m³.
 pub fn mean(words: &Words, stream: usize, out: &mut u64) -> u8
     requires { ⌜ Lent (now words) ⌝ }
     ensures { λ r. ⌜ OnReading (λ (h : ℕ). h) (λ (m : Meter). meanOf m stream) (now (words .entry)) (now (out .entry)) r (now (out .exit)) ⌝ }
@@ -127,11 +149,17 @@ pub fn mean(words: &Words, stream: usize, out: &mut u64) -> u8
         return 13;
     }
     let found = words::totals_in(&words[stream]);
-    match meter::mean_over(found.superior, found.volume) {
-        MeanAnswer::Refused(number) => number,
-        MeanAnswer::Accepted(h) => {
-            *out = h.value();
-            0
-        }
+    give(meter::mean_over(found.superior, found.volume), out)
+}
+
+// The mean inferior calorific value of what a stream has taken, in J/m³.
+pub fn mean_inferior(words: &Words, stream: usize, out: &mut u64) -> u8
+    requires { ⌜ Lent (now words) ⌝ }
+    ensures { λ r. ⌜ OnReading (λ (h : ℕ). h) (λ (m : Meter). meanInferiorOf m stream) (now (words .entry)) (now (out .entry)) r (now (out .exit)) ⌝ }
+{
+    if meter::LAST_STREAM < stream {
+        return 13;
     }
+    let found = words::totals_in(&words[stream]);
+    give(meter::mean_over(found.inferior, found.volume), out)
 }

@@ -13,7 +13,7 @@ ghost use Rattle.properties.specs.Quantities.{Bounded};
 ghost use Rattle.lent_meter.specs.Words.{totalsIn, sixIn, withGasWords, withTotalsWords};
 
 // Words of a stream.
-pub const WORDS: usize = 12;
+pub const WORDS: usize = 14;
 // The words in their order: 1 where there is an analysis, and 0 where there is none;
 pub const ANALYSED: usize = 0;
 // its pair of temperatures, in °C;
@@ -32,12 +32,16 @@ pub const RHO: usize = 6;
 pub const D: usize = 7;
 
 pub const W: usize = 8;
-// the volume in dm³; the energy, whole MJ and rest in mJ.
+// the volume in dm³; the superior energy, whole MJ and rest in mJ;
 const VOLUME: usize = 9;
 
 const SUPERIOR: usize = 10;
 
 const SUPERIOR_REST: usize = 11;
+// and the inferior energy.
+const INFERIOR: usize = 12;
+
+const INFERIOR_REST: usize = 13;
 
 pub type Row = [u64; WORDS];
 
@@ -51,6 +55,10 @@ pub fn totals_in(row: &Row) -> StreamTotals
             whole: row[SUPERIOR],
             rest: row[SUPERIOR_REST],
         },
+        inferior: Register {
+            whole: row[INFERIOR],
+            rest: row[INFERIOR_REST],
+        },
     }
 }
 
@@ -61,6 +69,8 @@ pub fn put_totals(row: &mut Row, totals: StreamTotals)
     row[VOLUME] = totals.volume;
     row[SUPERIOR] = totals.superior.whole;
     row[SUPERIOR_REST] = totals.superior.rest;
+    row[INFERIOR] = totals.inferior.whole;
+    row[INFERIOR_REST] = totals.inferior.rest;
 }
 
 // The properties in a row.

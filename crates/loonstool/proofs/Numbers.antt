@@ -25,4 +25,5 @@ zero-says-accepted =
       metering = λ m k v. never (firstOf (meteringOrder k v (streamAt m k))) _;
       totals = λ m k. never (firstOf (totalsOrder k)) _;
       mean = λ m k. never (firstOf (meanOrder k (streamAt m k))) _;
+      mean-inferior = λ m k. never (firstOf (meanOrder k (streamAt m k))) _;
     }

@@ -8,7 +8,7 @@ use Rattle.records.specs.Format.{Contents}
 use Rattle.records.specs.Calls.{readingOf, writingOf}
 use Rattle.properties.specs.Chain.{Six, propertiesOf}
 use Rattle.meter.specs.declared.Meter.{Meter}
-use Rattle.meter.specs.Calls.{analysisOf, meteringOf, totalsOf, meanOf}
+use Rattle.meter.specs.Calls.{analysisOf, meteringOf, totalsOf, meanOf, meanInferiorOf}
 
 module _ {A : Type 0} where
   -- 0 stands for no refusal
@@ -24,6 +24,7 @@ pub record ZeroSaysAccepted : Type 0 where
   pub metering : (m : Meter) (k v : ℕ) → NeverRefusedByZero (meteringOf m k v)
   pub totals : (m : Meter) (k : ℕ) → NeverRefusedByZero (totalsOf m k)
   pub mean : (m : Meter) (k : ℕ) → NeverRefusedByZero (meanOf m k)
+  pub mean-inferior : (m : Meter) (k : ℕ) → NeverRefusedByZero (meanInferiorOf m k)
 
 -- the properties in document 01's order
 abbrev pub inOrder : Six → List ℕ

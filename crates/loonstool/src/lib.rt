@@ -15,7 +15,7 @@ ghost use Rattle.properties.specs.Chain.{propertiesOf};
 ghost use Rattle.properties.specs.Answers.{numbers, meaning};
 ghost use Rattle.meter.specs.declared.Meter.{Meter};
 ghost use Rattle.meter.specs.State.{freshMeter};
-ghost use Rattle.meter.specs.Calls.{analysisOf, meteringOf, totalsOf, meanOf};
+ghost use Rattle.meter.specs.Calls.{analysisOf, meteringOf, totalsOf, meanOf, meanInferiorOf};
 ghost use Rattle.lent_meter.specs.Words.{packed, packedTotals};
 ghost use Rattle.lent_meter.specs.Lent.{Lent, OnWords, Leaves, OnReading};
 ghost use Rattle.lent_meter.specs.Check.{Tells};
@@ -56,21 +56,30 @@ pub extern "C" fn loonstool_meter_metering(meter: &mut Words, stream: usize, vol
     lent_meter::metering(meter, stream, volume)
 }
 
-// The volume and the energy of a stream.
+// The volume and the energies of a stream.
 #[no_mangle]
-pub extern "C" fn loonstool_meter_totals(meter: &Words, stream: usize, totals: &mut [u64; 3]) -> u8
+pub extern "C" fn loonstool_meter_totals(meter: &Words, stream: usize, totals: &mut [u64; 5]) -> u8
     ensures { λ r. ⌜ OnReading packedTotals (λ (m : Meter). totalsOf m stream) (now (meter .entry)) (now (totals .entry)) r (now (totals .exit)) ⌝ }
 {
     lent_meter::totals(meter, stream, totals)
 }
 
-// The mean calorific value of what a stream has taken, in J/m³.
+// The mean superior calorific value of what a stream has taken, in J/m³.
 #[no_mangle]
 pub extern "C" fn loonstool_meter_mean(meter: &Words, stream: usize, mean: &mut u64) -> u8
     requires { ⌜ Lent (now meter) ⌝ }
     ensures { λ r. ⌜ OnReading (λ (h : ℕ). h) (λ (m : Meter). meanOf m stream) (now (meter .entry)) (now (mean .entry)) r (now (mean .exit)) ⌝ }
 {
     lent_meter::mean(meter, stream, mean)
+}
+
+// The mean inferior calorific value of what a stream has taken, in J/m³.
+#[no_mangle]
+pub extern "C" fn loonstool_meter_mean_inferior(meter: &Words, stream: usize, mean: &mut u64) -> u8
+    requires { ⌜ Lent (now meter) ⌝ }
+    ensures { λ r. ⌜ OnReading (λ (h : ℕ). h) (λ (m : Meter). meanInferiorOf m stream) (now (meter .entry)) (now (mean .entry)) r (now (mean .exit)) ⌝ }
+{
+    lent_meter::mean_inferior(meter, stream, mean)
 }
 
 // The numbers of the properties, in document 01's order.

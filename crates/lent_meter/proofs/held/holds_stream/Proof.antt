@@ -9,15 +9,15 @@ use Rattle.lent_meter.proofs.Holding.{blank-holds, row-holds}
 use Rattle.lent_meter.proofs.held.holds_stream.Statement.{statement}
 use Rattle.lent_meter.proofs.held.holds_stream.Tie as tie
 
--- a row has 12 words
+-- a row has 14 words
 module _ (c : tie.After-all-zero) where
   abbrev row : List ℕ
   row = c .before .before .args .row .now
 
-  long : length row ≡ 12
+  long : length row ≡ 14
   long = c .before .all-zero-arg .given .0
 
-  zeros : _≡_ {A = List ℕ} (replicate (length row) 0) (replicate 12 0)
+  zeros : _≡_ {A = List ℕ} (replicate (length row) 0) (replicate 14 0)
   zeros = ap (λ (n : ℕ). replicate n 0) long
 
 returns : tie.Need-returns

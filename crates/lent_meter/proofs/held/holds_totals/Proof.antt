@@ -1,4 +1,4 @@
--- The volume, and its register.
+-- The volume, its energies, and their order.
 use native.Mathlib.Omega.{arith}
 use borrow.Author.Needs.{needs}
 use Rattle.lent_meter.proofs.Telling.{tells-false}
@@ -11,9 +11,13 @@ returns c = rw (← c .before .before .totals-in .ensures) (tells-false (λ s. o
 
 returns-2 : tie.Need-returns-2
 returns-2 c =
-    let e = c .before in
+    let i = c .before in
+    let s = i .before in
+    let e = s .before in
     let t = e .before .before in
-    rw (← t .totals-in .ensures) (totals-hold (t .totals-in .result) (e .if1 .left) (c .holds-register .ensures))
+    rw (← t .totals-in .ensures, c .at-most .ensures)
+    (totals-hold (t .totals-in .result) (s .holds-energy .result) (i .holds-energy2 .result) (e .if1 .left) (s .holds-energy .ensures) (i .holds-energy2 .ensures))
 
 pub holds-totals-spec : {M : Type 1} → statement M
-holds-totals-spec = tie.close (tie.spec (λ c κs. search needs) returns (λ c κs. search needs) returns-2)
+holds-totals-spec =
+    tie.close (tie.spec (λ c κs. search needs) returns (λ c κs. search needs) (λ c κs. search needs) (λ c κs. search needs) returns-2)
