@@ -9,8 +9,8 @@ use lib.Dec.{eqb, leb, ltb}
 use Rattle.records.specs.Conditions.{permitted}
 use Rattle.records.proofs.OrderLaws.{both}
 use Rattle.properties.specs.Chain.{Six, wobbe, rootOf}
-use Rattle.properties.specs.Bounds.{calorificLow, Floored, Proper, airDistance, byAir, DensityByAir}
-use Rattle.properties.specs.Quantities.{calorificBound, Bounded}
+use Rattle.properties.specs.Bounds.{Floored, Proper, airDistance, byAir, DensityByAir}
+use Rattle.properties.specs.Quantities.{Bounded}
 use Rattle.properties.specs.Answers.{numbers}
 use Rattle.meter.specs.declared.Gas.{Gas}
 use Rattle.meter.specs.declared.Register.{Register}

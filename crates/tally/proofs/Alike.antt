@@ -19,6 +19,7 @@ use Rattle.properties.specs.Answers.{numbers}
 use Rattle.properties.proofs.Gas.{distances}
 use Rattle.properties.proofs.Outcomes.{accepted-properties, clear-of-accepted}
 use Rattle.meter.specs.declared.InForce.{InForce}
+use Rattle.meter.specs.declared.InForce.the-variants.{Known}
 use Rattle.meter.specs.declared.Register.{Register}
 use Rattle.meter.specs.declared.Stream.{Stream}
 use Rattle.meter.specs.State.{amountIn}
@@ -26,9 +27,10 @@ use Rattle.meter.specs.Conditions.{pairDiffers, noAnalysis, analysisOrder, mete
 use Rattle.meter.specs.Calls.{gasOf, analysed, booked, withVolume, metered, meanIn}
 use Rattle.meter.proofs.Registers.{amount-booked}
 use Rattle.meter.proofs.Orders.{clear-analysis, clear-metering}
-use Rattle.tally.specs.Tally.{perMJ, analysis, metering, totals, mean, meanIs, Account, partsOf, grown, StreamTally, otherPair, noRecord, orderOf, meteredBy, leftBy, givenBy}
+use Rattle.tally.specs.Tally.{perMJ, Energy, superior, inferior, analysis, metering, totals, mean, meanIs, Account, partsOf, grown, StreamTally, accountOf, otherPair, noRecord, orderOf, meteredBy, leftBy, givenBy}
 use Rattle.tally.specs.Run.{partsGiven, totalsGiven}
 use Rattle.tally.specs.Demand.{AccountWithin, SameInForce, nothing, known}
+use Rattle.tally.proofs.Energies.{registerOf, for-both}
 
 -- the pair of a record in force
 abbrev pairOf : Option (List ℕ) → Option (ℕ × ℕ)
@@ -41,11 +43,14 @@ pub record AlikeRegister (u v : ℕ) (e : Register) (a : Account) : Type 0 where
   pub amount : amountIn u e ≡ a .booked
   pub within : AccountWithin v a
 
+abbrev pub AlikeEnergy : Stream → StreamTally → Energy → Type 0
+AlikeEnergy s l e = AlikeRegister perMJ (l .volume) (registerOf e (s .totals)) (accountOf e l)
+
 pub record Alike (s : Stream) (l : StreamTally) : Type 0 where
   pub inForce : SameInForce (s .analysis) (l .inForce)
   pub pair : l .pair ≡ pairOf (l .inForce)
   pub volume : s .totals .volume ≡ l .volume
-  pub superior : AlikeRegister perMJ (l .volume) (s .totals .superior) (l .superior)
+  pub energy : (e : Energy) → AlikeEnergy s l e
 
 -- a volume w at a value n that is the record's h, which is x unrounded
 register-grows : (u v w : ℕ) {n h : ℕ} (x : Fraction) (e : Register) (a : Account) → 0 < u → n ≡ h → Within (whole 2) h x → AlikeRegister u v e a →
@@ -80,8 +85,8 @@ module _ (s : Stream) (l : StreamTally) (h : Alike s l) (k : ℕ) where
   pub metering-order : (v : ℕ) → meteringOrder k v s ≡ orderOf k (metering v) l
   metering-order v = rw (same-none (h .inForce), h .volume)
 
-  pub mean-order : meanOrder k s ≡ orderOf k mean l
-  mean-order = rw (h .volume)
+  pub mean-order : (e : Energy) → meanOrder k s ≡ orderOf k (mean e) l
+  mean-order e = rw (h .volume)
 
   -- an accepted analysis
   pub analysis-alike : (bs : List ℕ) → firstOf (analysisOrder k bs s) ≡ 0 → Alike (analysed s bs) (leftBy (analysis bs) l)
@@ -90,13 +95,17 @@ module _ (s : Stream) (l : StreamTally) (h : Alike s l) (k : ℕ) where
         inForce = known bs (gasOf bs) refl refl (accepted-properties bs (clear-analysis k bs s z .clear));
         pair = refl;
         volume = h .volume;
-        superior = h .superior;
+        energy = for-both (AlikeEnergy (analysed s bs) (leftBy (analysis bs) l)) (h .energy superior) (h .energy inferior);
       }
 
   -- an accepted volume
   pub metering-alike : (v : ℕ) → firstOf (meteringOrder k v s) ≡ 0 → Alike (metered s v) (leftBy (metering v) l)
   metering-alike v z = go refl (h .inForce)
     where
+      grows : (e : Energy) {n f : ℕ} (x : Fraction) → n ≡ f → Within (whole 2) f x →
+          AlikeRegister perMJ (l .volume + v) (booked perMJ (registerOf e (s .totals)) (v * n)) (grown v f x (accountOf e l))
+      grows e x is near = register-grows perMJ (l .volume) v x (registerOf e (s .totals)) (accountOf e l) (omega arith) is near (h .energy e)
+
       go : {i : InForce} {o : Option (List ℕ)} → s .analysis ≡ i → SameInForce i o → Alike (withVolume i v s) (meteredBy o v l)
       go ei nothing = elim (true≢false (sym (ap noAnalysis ei) ∙ clear-metering k v s z .analysed)) [ ]
       go ei (known bs gas ec em e) =
@@ -106,15 +115,19 @@ module _ (s : Stream) (l : StreamTally) (h : Alike s l) (k : ℕ) where
             inForce = h .inForce;
             pair = h .pair;
             volume = ap (λ (n : ℕ). n + v) (h .volume);
-            superior =
-                register-grows perMJ (l .volume) v (unrounded.Hs (contentsIn bs)) (s .totals .superior) (l .superior) (omega arith)
-                (sym (ap (λ (p : Six). p .Hs) (found .1))) (near .Hs) (h .superior);
+            energy =
+                for-both (AlikeEnergy (withVolume (Known gas) v s) (meteredBy (some bs) v l))
+                (grows superior (unrounded.Hs (contentsIn bs)) (sym (ap (λ (p : Six). p .Hs) (found .1))) (near .Hs))
+                (grows inferior (unrounded.Hi (contentsIn bs)) (sym (ap (λ (p : Six). p .Hi) (found .1))) (near .Hi));
           }
 
 -- the same readings
 module _ (s : Stream) (l : StreamTally) (h : Alike s l) where
   pub totals-alike : totalsGiven (s .totals) ≡ givenBy totals l
-  totals-alike = cc (h .volume, parts-alike perMJ (l .volume) (s .totals .superior) (l .superior) (h .superior))
+  totals-alike = cc (h .volume, parts superior, parts inferior)
+    where
+      parts : (e : Energy) → partsGiven (registerOf e (s .totals)) ≡ partsOf perMJ (accountOf e l)
+      parts e = parts-alike perMJ (l .volume) (registerOf e (s .totals)) (accountOf e l) (h .energy e)
 
-  pub mean-alike : meanIs (meanIn (s .totals .superior) (s .totals .volume)) ≡ givenBy mean l
-  mean-alike = cc (h .superior .amount, h .volume)
+  pub mean-alike : (e : Energy) → meanIs (meanIn (registerOf e (s .totals)) (s .totals .volume)) ≡ givenBy (mean e) l
+  mean-alike e = cc (h .energy e .amount, h .volume)

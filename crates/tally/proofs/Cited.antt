@@ -6,12 +6,14 @@ use Rattle.meter.proofs.analysis as analysis
 use Rattle.meter.proofs.metering as metering
 use Rattle.meter.proofs.totals as totals
 use Rattle.meter.proofs.mean as mean
+use Rattle.meter.proofs.mean_inferior as mean-inferior
 use Rattle.loonstool.proofs.loonstool_meter_fresh as lent-fresh
 use Rattle.loonstool.proofs.loonstool_meter_check as lent-check
 use Rattle.loonstool.proofs.loonstool_meter_analysis as lent-analysis
 use Rattle.loonstool.proofs.loonstool_meter_metering as lent-metering
 use Rattle.loonstool.proofs.loonstool_meter_totals as lent-totals
 use Rattle.loonstool.proofs.loonstool_meter_mean as lent-mean
+use Rattle.loonstool.proofs.loonstool_meter_mean_inferior as lent-mean-inferior
 
 pub fresh-proved : {M : Type 1} → fresh.Statement.statement M
 fresh-proved = fresh.Met.met
@@ -42,6 +44,12 @@ mean-proved = mean.Met.met
 
 pub mean-read : KnownAs 0 mean.Kinds.ps mean.Kinds.r mean.Reads.Ghost mean.Reads.requires mean.Reads.ensures mean.Reads.Asked mean.Reads.Learnt
 mean-read = mean.Reads.known
+
+pub mean-inferior-proved : {M : Type 1} → mean-inferior.Statement.statement M
+mean-inferior-proved = mean-inferior.Met.met
+
+pub mean-inferior-read : KnownAs 0 mean-inferior.Kinds.ps mean-inferior.Kinds.r mean-inferior.Reads.Ghost mean-inferior.Reads.requires mean-inferior.Reads.ensures mean-inferior.Reads.Asked mean-inferior.Reads.Learnt
+mean-inferior-read = mean-inferior.Reads.known
 
 pub lent-fresh-proved : {M : Type 1} → lent-fresh.Statement.statement M
 lent-fresh-proved = lent-fresh.Met.met
@@ -78,3 +86,9 @@ lent-mean-proved = lent-mean.Met.met
 
 pub lent-mean-read : KnownAs 2 lent-mean.Kinds.ps lent-mean.Kinds.r lent-mean.Reads.Ghost lent-mean.Reads.requires lent-mean.Reads.ensures lent-mean.Reads.Asked lent-mean.Reads.Learnt
 lent-mean-read = lent-mean.Reads.known
+
+pub lent-mean-inferior-proved : {M : Type 1} → lent-mean-inferior.Statement.statement M
+lent-mean-inferior-proved = lent-mean-inferior.Met.met
+
+pub lent-mean-inferior-read : KnownAs 2 lent-mean-inferior.Kinds.ps lent-mean-inferior.Kinds.r lent-mean-inferior.Reads.Ghost lent-mean-inferior.Reads.requires lent-mean-inferior.Reads.ensures lent-mean-inferior.Reads.Asked lent-mean-inferior.Reads.Learnt
+lent-mean-inferior-read = lent-mean-inferior.Reads.known

@@ -13,19 +13,17 @@ use Rattle.records.specs.Order.{firstOf, accepted, decided}
 use Rattle.records.specs.Format.{combustionIn, meteringIn, contentsIn}
 use Rattle.records.specs.Calls.{readingOf}
 use Rattle.records.proofs.OrderLaws.{decided-accepted}
-use Rattle.properties.specs.Quantities.{calorificBound}
 use Rattle.properties.proofs.Gas.{every-accepted-record}
-use Rattle.meter.specs.declared.Register.{Register}
 use Rattle.meter.specs.declared.Meter.{Meter}
-use Rattle.meter.specs.State.{nothingBooked, freshStream, freshMeter, streamAt}
-use Rattle.meter.specs.Calls.{meanIn, meanReading}
+use Rattle.meter.specs.State.{Sound, nothingBooked, freshStream, freshMeter, streamAt}
 use Rattle.meter.proofs.Orders.{record-clear}
 use Rattle.meter.proofs.Streams.{at-made}
-use Rattle.meter.proofs.Kept.{fresh-is-sound, no-mean-above-ceiling}
-use Rattle.tally.specs.Tally.{lastStream, perMJ, analysis, Call, done, Answer, Account, StreamTally, noAccount, freshStreamTally, Tally, freshTally, tallyAt, aboveLast, otherPair, orderOf, tallyAfter, answersTo, tallied}
+use Rattle.meter.proofs.Kept.{fresh-is-sound}
+use Rattle.tally.specs.Tally.{lastStream, perMJ, Energy, analysis, Call, done, Answer, StreamTally, accountOf, noAccount, freshStreamTally, Tally, freshTally, tallyAt, aboveLast, otherPair, orderOf, tallyAfter, answersTo, tallied}
 use Rattle.tally.specs.Run.{Run, ended, after, by-totals, by-mean}
 use Rattle.tally.specs.Demand.{acceptedVolume, AcceptedIn, here, later, AnalysisShown, nothing, MeanWithin, no-call, EachLeaves, Claim}
-use Rattle.tally.proofs.Alike.{AlikeRegister, Alike}
+use Rattle.tally.proofs.Energies.{for-both, mean-at-most}
+use Rattle.tally.proofs.Alike.{AlikeRegister, AlikeEnergy, Alike}
 use Rattle.tally.proofs.Steps.{Linked, required, Next, both, step}
 use Rattle.tally.proofs.Volumes.{volume-sum}
 
@@ -39,18 +37,21 @@ mean-distance t n v x p h =
       above = omega (arith, h .above, mul-le-mul-right (x .den) (r .above));
     }
 
--- the mean of a register of the stream k of a meter, beside an account
-mean-within : (m : Meter) (k : ℕ) (l : StreamTally) (a : Account) (e : Register) → k ≤ lastStream → Alike (streamAt m k) l → AlikeRegister perMJ (l .volume) e a →
-    (meanReading k (streamAt m k) e ≡ accepted (meanIn e (streamAt m k .totals .volume)) → meanIn e (streamAt m k .totals .volume) ≤ calorificBound) → MeanWithin (l .volume) a
-mean-within m k l a e b alike same most =
+-- the mean of an energy of the stream k
+mean-within : (m : Meter) (k : ℕ) (l : StreamTally) (e : Energy) → Sound m → k ≤ lastStream → Alike (streamAt m k) l → MeanWithin (l .volume) (accountOf e l)
+mean-within m k l e sound b alike =
+    let a = accountOf e l in
+    let same = alike .energy e in
     record {
       distance = λ p. mean-distance 2 (a .booked) (l .volume) (a .exact) p (same .within);
-      ceiling = λ p. rw (← same .amount, ← alike .volume) (most (rw (le-ltb lastStream k b, ne-eqb (streamAt m k .totals .volume) 0 (omega (arith, alike .volume)))));
+      ceiling = λ p.
+          rw (← same .amount, ← alike .volume)
+          (mean-at-most m k e _ sound (rw (le-ltb lastStream k b, ne-eqb (streamAt m k .totals .volume) 0 (omega (arith, alike .volume)))));
     }
 
 -- a fresh meter beside a fresh tally
 fresh-alike : Alike freshStream freshStreamTally
-fresh-alike = record { inForce = nothing; pair = refl; volume = refl; superior = none }
+fresh-alike = record { inForce = nothing; pair = refl; volume = refl; energy = for-both (AlikeEnergy freshStream freshStreamTally) none none }
   where
     none : AlikeRegister perMJ 0 nothingBooked noAccount
     none = record { rest = omega arith; amount = refl; within = omega arith }
@@ -102,10 +103,10 @@ demand3 m₀ m cs rs made ran =
                 omega
                 (arith, volume-sum k b freshTally cs refl, ap (λ (x : StreamTally). x .volume) (at-made freshStreamTally 16 k), ap (acceptedVolume k cs) (r .answers));
             totals = λ x got. first (step m t (r .linked) (by-totals k x got) .answers) ∙ rw (le-ltb lastStream k b);
-            mean = λ x got p. first (step m t (r .linked) (by-mean k x got) .answers) ∙ rw (le-ltb lastStream k b, ne-eqb (l .volume) 0 (omega arith));
-            no-mean = λ x got p. first (step m t (r .linked) (by-mean k x got) .answers) ∙ rw (le-ltb lastStream k b, eq-eqb (l .volume) 0 p);
-            superior-within = a .superior .within;
-            mean-within = mean-within m k l (l .superior) _ b a (a .superior) (no-mean-above-ceiling m k _ (r .linked .sound));
+            mean = λ e x got p. first (step m t (r .linked) (by-mean e k x got) .answers) ∙ rw (le-ltb lastStream k b, ne-eqb (l .volume) 0 (omega arith));
+            no-mean = λ e x got p. first (step m t (r .linked) (by-mean e k x got) .answers) ∙ rw (le-ltb lastStream k b, eq-eqb (l .volume) 0 p);
+            energy-within = λ e. a .energy e .within;
+            mean-within = λ e. mean-within m k l e (r .linked .sound) b a;
             inForce = a .inForce;
           };
       analyses = λ bs. analyses bs freshTally (r .answers);

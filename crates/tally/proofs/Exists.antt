@@ -15,11 +15,12 @@ use Rattle.meter.specs.declared.MeanAnswer.{MeanAnswer}
 use Rattle.meter.specs.declared.MeanAnswer.the-variants as mean-answer
 use Rattle.meter.specs.State.{freshMeter, streamAt, withStream}
 use Rattle.meter.specs.Conditions.{analysisOrder, meteringOrder}
-use Rattle.meter.specs.Calls.{analysed, metered, totalsOf, meanOf}
+use Rattle.meter.specs.Calls.{analysed, metered, totalsOf}
 use Rattle.meter.specs.Answers.{totalsMeaning, meanMeaning}
 use Rattle.tally.specs.Tally.{Ask, analysis, metering, totals, mean, Call, on, Answer}
 use Rattle.tally.specs.Run.{Step, by-analysis, by-metering, by-totals, by-mean, ended, after}
 use Rattle.tally.specs.Demand.{EveryListHasRun, HasFresh}
+use Rattle.tally.proofs.Energies.{meanFor, mean-returned}
 
 pub has-fresh : HasFresh
 has-fresh = record { meter = freshMeter; returns = λ p. refl }
@@ -69,7 +70,7 @@ has-step m k (metering v) =
     let new = withStream m k (metered (streamAt m k) v) in
     record { answer = _; meter = _; step = by-metering k v (changed n m new) (λ p. changed-gives n m new) }
 has-step m k totals = record { answer = _; meter = _; step = by-totals k (totals-with (totalsOf m k)) (λ p. totals-means (totalsOf m k)) }
-has-step m k mean = record { answer = _; meter = _; step = by-mean k (mean-with (meanOf m k)) (λ p. mean-means (meanOf m k)) }
+has-step m k (mean e) = record { answer = _; meter = _; step = by-mean e k (mean-with (meanFor e k m)) (mean-returned m k e _ (mean-means (meanFor e k m))) }
 
 pub every-list-has-run : EveryListHasRun
 every-list-has-run m [] = record { answers = []; meter = m; run = ended m }

@@ -7,11 +7,12 @@ use Rattle.records.specs.Answers.{numberOf, Returns}
 use Rattle.meter.specs.declared.Meter.{Meter}
 use Rattle.meter.specs.State.{Sound, freshMeter, streamAt}
 use Rattle.meter.specs.Conditions.{analysisOrder, meteringOrder}
-use Rattle.meter.specs.Calls.{analysed, metered, analysisOf, meteringOf, totalsOf, meanOf, afterAnalysis, afterMetering}
+use Rattle.meter.specs.Calls.{analysed, metered, analysisOf, meteringOf, totalsOf, afterAnalysis, afterMetering}
 use Rattle.lent_meter.specs.Words.{packedTotals, packed}
 use Rattle.meter.proofs.Kept.{sound-after-analysis, sound-after-metering}
 use Rattle.lent_meter.proofs.Kept.{packed-otherwise, leaves-packed, packed-is-injective}
 use Rattle.tally.specs.Tally.{Ask, analysis, metering, totals, mean, Call, on, Answer}
+use Rattle.tally.proofs.Energies.{meanFor, lent-mean-gave}
 use Rattle.tally.proofs.Exists.{to}
 use Rattle.tally.specs.LentRun.{Words, LentStep, by-analysis, by-metering, by-totals, by-mean, ended, after, HasLentRun, EveryListHasLentRun, HasFreshWords}
 
@@ -64,12 +65,12 @@ has-step m sound k totals =
       sound = sound;
       step = by-totals ([], ([], tt)) (to (packed m)) k (to []) _ (to _) (λ p. reads m packedTotals (λ (x : Meter). totalsOf x k) []);
     }
-has-step m sound k mean =
+has-step m sound k (mean e) =
     record {
       answer = _;
       meter = m;
       sound = sound;
-      step = by-mean ([], ([], tt)) (to (packed m)) k (to 0) _ (to _) (λ p. reads m (λ (x : ℕ). x) (λ (x : Meter). meanOf x k) 0);
+      step = by-mean e ([], ([], tt)) (to (packed m)) k (to 0) _ (to _) (lent-mean-gave ([], ([], tt)) (to (packed m)) k (to 0) e _ (to _) (reads m (λ (x : ℕ). x) (meanFor e k) 0));
     }
 
 has-run : (m : Meter) → Sound m → (cs : List Call) → HasLentRun (packed m) cs

@@ -8,7 +8,7 @@ use Rattle.records.specs.Answers.{verdictOf, Returns}
 use Rattle.meter.specs.declared.Meter.{Meter}
 use Rattle.meter.specs.State.{Sound, freshMeter, streamAt, withStream}
 use Rattle.meter.specs.Conditions.{analysisOrder, meteringOrder, totalsOrder, meanOrder}
-use Rattle.meter.specs.Calls.{analysed, metered, analysisOf, meteringOf, totalsOf, meanIn, meanOf}
+use Rattle.meter.specs.Calls.{analysed, metered, analysisOf, meteringOf, totalsOf, meanIn}
 use Rattle.meter.proofs.Kept.{fresh-is-sound, sound-after-analysis, sound-after-metering}
 use Rattle.lent_meter.specs.Words.{packedTotals, packed}
 use Rattle.lent_meter.specs.Lent.{Lent}
@@ -17,6 +17,7 @@ use Rattle.tally.specs.Tally.{Call, Given, done, meanIs, Answer}
 use Rattle.tally.specs.Run.{changeAnswer, totalsGiven, Step, by-analysis, by-metering, by-totals, by-mean, Run, ended, after}
 use Rattle.tally.specs.LentRun as lent
 use Rattle.tally.specs.LentRun.{Words, totalsPut, LentStep, LentRun, LentRequired, CheckDecides, LentClaim}
+use Rattle.tally.proofs.Energies.{registerOf, meanFor, mean-returned, lent-mean-asked, lent-mean-found}
 use Rattle.tally.proofs.Demand.{demand3}
 use Rattle.tally.proofs.Exists.{totals-with, totals-means, mean-with, mean-means, changed, changed-gives}
 
@@ -68,12 +69,12 @@ stepped m h (lent.by-totals κs w k t n t₁ gave) =
     (ap (mapped totalsGiven) (totals-means (totalsOf m k))
     ∙ read-answer packedTotals totalsPut totalsGiven (λ x. refl) (firstOf (totalsOrder k)) (streamAt m k .totals) (gave tt m (h .sound) (h .same)))
     h (by-totals k (totals-with (totalsOf m k)) (λ p. totals-means (totalsOf m k)))
-stepped m h (lent.by-mean κs w k x n x₁ gave) =
+stepped m h (lent.by-mean e κs w k x n x₁ gave) =
     let s = streamAt m k in
     answered
-    (ap (mapped meanIs) (mean-means (meanOf m k))
-    ∙ read-answer (λ (x : ℕ). x) meanIs meanIs (λ x. refl) (firstOf (meanOrder k s)) (meanIn (s .totals .superior) (s .totals .volume)) (gave (lent-by h) m (h .sound) (h .same)))
-    h (by-mean k (mean-with (meanOf m k)) (λ p. mean-means (meanOf m k)))
+    (ap (mapped meanIs) (mean-means (meanFor e k m))
+    ∙ read-answer (λ (x : ℕ). x) meanIs meanIs (λ x. refl) (firstOf (meanOrder k s)) (meanIn (registerOf e (s .totals)) (s .totals .volume)) (lent-mean-found κs w k x e n x₁ gave (lent-by h) m (h .sound) (h .same)))
+    h (by-mean e k (mean-with (meanFor e k m)) (mean-returned m k e _ (mean-means (meanFor e k m))))
 
 -- the meter after a list on words, and its run
 record Ran (m : Meter) (cs : List Call) (rs : List Answer) (w : Words) : Type 0 where
@@ -94,7 +95,7 @@ required l =
       analysis = λ κs r k b e. tt;
       metering = λ κs r k v e. subst Lent (sym e) l;
       totals = λ κs r k t e. tt;
-      mean = λ κs r k x e. subst Lent (sym e) l;
+      mean = λ e κs r k x is. lent-mean-asked κs r k x e (subst Lent (sym is) l);
     }
 
 pub check-decides : CheckDecides

@@ -1,4 +1,5 @@
 mod Cases
+mod Energies
 mod Alike
 mod Steps
 mod Volumes

@@ -25,6 +25,7 @@ use Rattle.meter.proofs.Kept.{others-stay, analysis-keeps, metering-keeps}
 use Rattle.tally.specs.Tally.{lastStream, Ask, analysis, metering, totals, mean, Call, on, Given, done, meanIs, Answer, StreamTally, freshStreamTally, Tally, tallyAt, withTally, leftBy, givenBy, numberFor, answerTo, tallyAfter, answersTo, tallied}
 use Rattle.tally.specs.Run.{changeAnswer, totalsGiven, Step, by-analysis, by-metering, by-totals, by-mean}
 use Rattle.tally.specs.Demand.{isReading, Required, Leaves, StepLeaves, no-call, next-call}
+use Rattle.tally.proofs.Energies.{registerOf, mean-asked, mean-found}
 use Rattle.tally.proofs.Alike.{Alike, analysis-order, metering-order, mean-order, analysis-alike, metering-alike, totals-alike, mean-alike}
 
 -- a meter beside a tally
@@ -35,7 +36,7 @@ pub record Linked (m : Meter) (t : Tally) : Type 0 where
 
 -- what holds of every meter is all that the contracts require
 pub required : (m : Meter) → Sound m → Required m
-required m h = record { analysis = λ κs k b. tt; metering = λ k v. h; totals = λ k. tt; mean = λ k. h }
+required m h = record { analysis = λ κs k b. tt; metering = λ k v. h; totals = λ k. tt; mean = λ e k. mean-asked m k e h }
 
 -- calls with their answers, from the meter m beside the tally t to the meter m₁
 pub record Next (t : Tally) (m : Meter) (cs : List Call) (rs : List Answer) (m₁ : Meter) : Type 0 where
@@ -139,7 +140,8 @@ module _ (m : Meter) (t : Tally) (h : Linked m t) where
   step (by-metering k v r got) = metering-next m t h k v (r .verdict) (r .meter) (got (h .sound))
   step (by-totals k r got) =
       reads m t h totalsGiven k totals (totalsMeaning r) (firstOf (totalsOrder k)) (streamAt m k .totals) refl (got tt) (totals-alike (streamAt m k) (tallyAt t k) (h .each k)) refl
-  step (by-mean k r got) =
+  step (by-mean e k r got) =
       let s = streamAt m k in
       let l = tallyAt t k in
-      reads m t h meanIs k mean (meanMeaning r) (firstOf (meanOrder k s)) (meanIn (s .totals .superior) (s .totals .volume)) (ap firstOf (mean-order s l (h .each k) k)) (got (h .sound)) (mean-alike s l (h .each k)) refl
+      reads m t h meanIs k (mean e) (meanMeaning r) (firstOf (meanOrder k s)) (meanIn (registerOf e (s .totals)) (s .totals .volume)) (ap firstOf (mean-order s l (h .each k) k e)) (mean-found m k e r got (h .sound))
+      (mean-alike s l (h .each k) e) refl

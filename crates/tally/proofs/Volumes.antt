@@ -23,7 +23,7 @@ accepted-adds : (k : ℕ) (ask : Ask) (s : StreamTally) → firstOf (orderOf k a
 accepted-adds k (analysis bs) s z = omega arith
 accepted-adds k (metering v) s z = metered-adds (s .inForce) v s (unmet (orderOf k (metering v) s) tt z 16)
 accepted-adds k totals s z = omega arith
-accepted-adds k mean s z = omega arith
+accepted-adds k (mean e) s z = omega arith
 
 count-after : (t : Tally) (c : Call) → length (t .streams) ≡ 16 → length (tallyAfter t c .streams) ≡ 16
 count-after t c h = go (numberFor t c)

@@ -5,7 +5,8 @@ use mathlib.Core.List.{List, [], _∷_}
 use Prim.Native.Nat.{ℕ, _*_, _-_}
 use lib.Dec.{eqb, leb}
 use lib.IntN.{ℤ, pos, natAbs, _-ℤ_}
-use Rattle.components.specs.Table.{entryOf, superior, inferior}
+use Rattle.components.specs.Table.{entryOf}
+use Rattle.components.specs.Table as table
 use Rattle.components.specs.Rule.{atomsOf, waterHeat, allowance, excess}
 use Rattle.components.specs.Tests.{all}
 use Rattle.records.specs.Order.{refused, accepted, mapped}
@@ -14,7 +15,7 @@ use Rattle.records.specs.Cases.{sameList, sameOutcome, annexD, k2}
 use Rattle.records.specs.Cases as on-record
 use Rattle.properties.specs.Chain.{Six, propertiesOf}
 use Rattle.properties.specs.Cases.{sameSix, printed1, printed2}
-use Rattle.tally.specs.Tally.{analysis, metering, totals, mean, Call, on, Given, done, totalsAre, meanIs, Answer, Tally, freshTally, answerTo, tallyAfter}
+use Rattle.tally.specs.Tally.{superior, inferior, analysis, metering, totals, mean, Call, on, Totals, Given, done, totalsAre, meanIs, Answer, Tally, freshTally, answerTo, tallyAfter}
 
 -- figures of the rule of the component table: a line, the place of a temperature among 25, 20, 15 and 0 °C, the line's h superior and
 -- inferior, twice their difference, its hydrogen atoms a, the superior h of water w, and a × w
@@ -44,6 +45,15 @@ abbrev pub eachNumber : List on-record.Case → List Case → List Case
 eachNumber [] more = more
 eachNumber (c ∷ cs) more = number c ∷ eachNumber cs more
 
+-- K2's totals after 1,000 dm³: volume and superior energy are K9's, the inferior energy is computed
+abbrev pub after1000 : Totals
+after1000 =
+    record {
+      volume = 1000;
+      superior = record { whole = 37; rest = 781616000 };
+      inferior = record { whole = 34; rest = 15574000 };
+    }
+
 abbrev pub cases : List Case
 cases =
     six (bytesOf (annexD 15 15)) printed1  -- K1
@@ -53,16 +63,24 @@ cases =
     ((on 0 (metering 1000), refused 16)
     ∷ (on 0 (analysis k2), accepted done)
     ∷ (on 0 (metering 1000), accepted done)
-    ∷ (on 0 totals, accepted (totalsAre (record { volume = 1000; superior = record { whole = 37; rest = 781616000 } })))
-    ∷ (on 0 mean, accepted (meanIs 37781616))
+    ∷ (on 0 totals, accepted (totalsAre after1000))
+    ∷ (on 0 (mean superior), accepted (meanIs 37781616))
     ∷ [])  -- K9
+    ∷ calls
+    ((on 15 (analysis k2), accepted done)
+    ∷ (on 15 (mean inferior), refused 18)
+    ∷ (on 15 (metering 1000), accepted done)
+    ∷ (on 15 totals, accepted (totalsAre after1000))
+    ∷ (on 15 (mean inferior), accepted (meanIs 34015574))
+    ∷ (on 16 (mean inferior), refused 13)
+    ∷ [])  -- computed: K2's inferior energy and its mean
     ∷ rule (record { line = 23; place = 0; superior = 2700200; inferior = 2524100; twice = 352200; atoms = 8; water = 44016; product = 352128 })  -- K10
     ∷ [])
 
 -- the same answer: the number of a refusal, or the figures that are given
 abbrev pub figuresOf : Given → List ℕ
 figuresOf done = []
-figuresOf (totalsAre t) = t .volume ∷ t .superior .whole ∷ t .superior .rest ∷ []
+figuresOf (totalsAre t) = t .volume ∷ t .superior .whole ∷ t .superior .rest ∷ t .inferior .whole ∷ t .inferior .rest ∷ []
 figuresOf (meanIs x) = x ∷ []
 
 abbrev pub sameAnswer : Answer → Answer → Bool
@@ -77,8 +95,8 @@ is z n = eqb (natAbs (z -ℤ pos n)) 0
 
 abbrev pub ruleHolds : Figures → Bool
 ruleHolds f =
-    is (entryOf (f .line) (superior (f .place))) (f .superior)
-    && is (entryOf (f .line) (inferior (f .place))) (f .inferior)
+    is (entryOf (f .line) (table.superior (f .place))) (f .superior)
+    && is (entryOf (f .line) (table.inferior (f .place))) (f .inferior)
     && eqb (2 * (f .superior - f .inferior)) (f .twice)
     && eqb (atomsOf (f .line)) (f .atoms)
     && is (waterHeat (f .place)) (f .water)

@@ -23,7 +23,7 @@ use Rattle.meter.specs.declared.Meter.{Meter}
 use Rattle.meter.specs.declared.TotalsAnswer.{TotalsAnswer}
 use Rattle.meter.specs.declared.MeanAnswer.{MeanAnswer}
 use Rattle.meter.specs.State.{streamAt}
-use Rattle.tally.specs.Tally.{lastStream, Ask, analysis, metering, totals, mean, Call, on, done, Answer, Account, StreamTally, givenBy, tallyAt, freshTally, answersTo, tallied}
+use Rattle.tally.specs.Tally.{lastStream, Energy, Ask, analysis, metering, totals, mean, Call, on, done, Answer, Account, StreamTally, accountOf, givenBy, tallyAt, freshTally, answersTo, tallied}
 use Rattle.tally.specs.Run.{AnalysisAsks, MeteringAsks, TotalsAsks, MeanAsks, FreshReturns, TotalsReturns, MeanReturns, totalsAnswer, meanAnswer, Run, ended, after}
 
 -- the volume that a call added: that of an accepted metering call
@@ -32,7 +32,7 @@ addedBy ask (refused n) = 0
 addedBy (analysis bs) (accepted g) = 0
 addedBy (metering v) (accepted g) = v
 addedBy totals (accepted g) = 0
-addedBy mean (accepted g) = 0
+addedBy (mean e) (accepted g) = 0
 
 -- the sum of the volumes that were accepted for the stream k
 abbrev pub acceptedVolume : ℕ → List Call → List Answer → ℕ
@@ -70,13 +70,13 @@ pub record MeanWithin (v : ℕ) (a : Account) : Type 0 where
 pub record StreamDemand (k : ℕ) (s : StreamTally) (cs : List Call) (rs : List Answer) (m : Meter) : Type 0 where
   -- V is the sum of the accepted volumes
   pub volume : s .volume ≡ acceptedVolume k cs rs
-  -- a reading of totals made then answers V, and E as whole MJ and rest
+  -- a reading of totals made then answers V, and each E as whole MJ and rest
   pub totals : (r : TotalsAnswer) → TotalsReturns m k r → totalsAnswer r ≡ accepted (givenBy totals s)
-  -- a reading of the mean made then answers near(E / V), or 18 where V is 0
-  pub mean : (r : MeanAnswer) → MeanReturns m k r → 0 < s .volume → meanAnswer r ≡ accepted (givenBy mean s)
-  pub no-mean : (r : MeanAnswer) → MeanReturns m k r → s .volume ≡ 0 → meanAnswer r ≡ refused 18
-  pub superior-within : AccountWithin (s .volume) (s .superior)
-  pub mean-within : MeanWithin (s .volume) (s .superior)
+  -- of each energy, a reading of the mean made then answers near(E / V), or 18 where V is 0, and E and the mean are within their distances
+  pub mean : (e : Energy) (r : MeanAnswer) → MeanReturns e m k r → 0 < s .volume → meanAnswer r ≡ accepted (givenBy (mean e) s)
+  pub no-mean : (e : Energy) (r : MeanAnswer) → MeanReturns e m k r → s .volume ≡ 0 → meanAnswer r ≡ refused 18
+  pub energy-within : (e : Energy) → AccountWithin (s .volume) (accountOf e s)
+  pub mean-within : (e : Energy) → MeanWithin (s .volume) (accountOf e s)
   pub inForce : SameInForce (streamAt m k .analysis) (s .inForce)
 
 -- what the contracts require of a meter, with any other arguments
@@ -84,14 +84,14 @@ pub record Required (m : Meter) : Type 0 where
   pub analysis : (κs : Lfts 1) (k : ℕ) (b : RefT (List ℕ)) → AnalysisAsks κs m k b
   pub metering : (k v : ℕ) → MeteringAsks m k v
   pub totals : (k : ℕ) → TotalsAsks m k
-  pub mean : (k : ℕ) → MeanAsks m k
+  pub mean : (e : Energy) (k : ℕ) → MeanAsks e m k
 
--- totals and mean are readings
+-- totals and means are readings
 abbrev pub isReading : Ask → Bool
 isReading (analysis bs) = false
 isReading (metering v) = false
 isReading totals = true
-isReading mean = true
+isReading (mean e) = true
 
 -- one call: a refused one and a reading leave the meter as it was, and every stream but the named one stays as it was
 pub record Leaves (m : Meter) (c : Call) (a : Answer) (m₁ : Meter) : Type 0 where

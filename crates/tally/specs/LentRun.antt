@@ -18,7 +18,8 @@ use Rattle.loonstool.proofs.loonstool_meter_analysis.Reads as analysis-reads
 use Rattle.loonstool.proofs.loonstool_meter_metering.Reads as metering-reads
 use Rattle.loonstool.proofs.loonstool_meter_totals.Reads as totals-reads
 use Rattle.loonstool.proofs.loonstool_meter_mean.Reads as mean-reads
-use Rattle.tally.specs.Tally.{analysis, metering, totals, mean, Call, on, Given, done, totalsAre, meanIs, Answer}
+use Rattle.loonstool.proofs.loonstool_meter_mean_inferior.Reads as mean-inferior-reads
+use Rattle.tally.specs.Tally.{Energy, superior, inferior, analysis, metering, totals, mean, Call, on, Given, done, totalsAre, meanIs, Answer}
 use Rattle.tally.specs.Run.{FreshReturns, Run}
 use Rattle.tally.specs.Demand.{Demand3}
 
@@ -42,12 +43,23 @@ MeteringGave κs w k v n w₁ = metering-reads.Asked κs (w, (k, (v, tt))) → m
 abbrev pub TotalsGave : Lfts 2 → RefT Words → ℕ → RefT (List ℕ) → ℕ → RefT (List ℕ) → Type 0
 TotalsGave κs w k t n t₁ = totals-reads.Asked κs (w, (k, (t, tt))) → totals-reads.Learnt κs (w, (k, (t, tt))) n (w, (k, (t₁, tt)))
 
-abbrev pub MeanGave : Lfts 2 → RefT Words → ℕ → RefT ℕ → ℕ → RefT ℕ → Type 0
-MeanGave κs w k h n h₁ = mean-reads.Asked κs (w, (k, (h, tt))) → mean-reads.Learnt κs (w, (k, (h, tt))) n (w, (k, (h₁, tt)))
+abbrev pub MeanAsked : Energy → Lfts 2 → RefT Words → ℕ → RefT ℕ → Type 0
+MeanAsked superior κs w k h = mean-reads.Asked κs (w, (k, (h, tt)))
+MeanAsked inferior κs w k h = mean-inferior-reads.Asked κs (w, (k, (h, tt)))
+
+abbrev pub MeanGave : Energy → Lfts 2 → RefT Words → ℕ → RefT ℕ → ℕ → RefT ℕ → Type 0
+MeanGave superior κs w k h n h₁ = MeanAsked superior κs w k h → mean-reads.Learnt κs (w, (k, (h, tt))) n (w, (k, (h₁, tt)))
+MeanGave inferior κs w k h n h₁ = MeanAsked inferior κs w k h → mean-inferior-reads.Learnt κs (w, (k, (h, tt))) n (w, (k, (h₁, tt)))
 
 -- what an accepted reading has put into the memory that was lent for it
 abbrev pub totalsPut : List ℕ → Given
-totalsPut t = totalsAre (record { volume = getD t 0 0; superior = record { whole = getD t 1 0; rest = getD t 2 0 } })
+totalsPut t =
+    totalsAre
+    (record {
+      volume = getD t 0 0;
+      superior = record { whole = getD t 1 0; rest = getD t 2 0 };
+      inferior = record { whole = getD t 3 0; rest = getD t 4 0 };
+    })
 
 -- one call of a function on words: the number 0 says that it was accepted
 pub data LentStep : Words → List Call → List Answer → Words → Type 0 where
@@ -57,8 +69,8 @@ pub data LentStep : Words → List Call → List Answer → Words → Type 0 whe
       LentStep (now w) (on k (metering v) ∷ []) (decided n done ∷ []) (now w₁)
   by-totals : (κs : Lfts 2) (w : RefT Words) (k : ℕ) (t : RefT (List ℕ)) (n : ℕ) (t₁ : RefT (List ℕ)) → TotalsGave κs w k t n t₁ →
       LentStep (now w) (on k totals ∷ []) (decided n (totalsPut (now t₁)) ∷ []) (now w)
-  by-mean : (κs : Lfts 2) (w : RefT Words) (k : ℕ) (h : RefT ℕ) (n : ℕ) (h₁ : RefT ℕ) → MeanGave κs w k h n h₁ →
-      LentStep (now w) (on k mean ∷ []) (decided n (meanIs (now h₁)) ∷ []) (now w)
+  by-mean : (e : Energy) (κs : Lfts 2) (w : RefT Words) (k : ℕ) (h : RefT ℕ) (n : ℕ) (h₁ : RefT ℕ) → MeanGave e κs w k h n h₁ →
+      LentStep (now w) (on k (mean e) ∷ []) (decided n (meanIs (now h₁)) ∷ []) (now w)
 
 -- a list of calls, each on the words as the one before left them
 pub data LentRun : Words → List Call → List Answer → Words → Type 0 where
@@ -70,7 +82,7 @@ pub record LentRequired (w : Words) : Type 0 where
   pub analysis : (κs : Lfts 2) (r : RefT Words) (k : ℕ) (b : RefT (List ℕ)) → now r ≡ w → analysis-reads.Asked κs (r, (k, (b, tt)))
   pub metering : (κs : Lfts 1) (r : RefT Words) (k v : ℕ) → now r ≡ w → metering-reads.Asked κs (r, (k, (v, tt)))
   pub totals : (κs : Lfts 2) (r : RefT Words) (k : ℕ) (t : RefT (List ℕ)) → now r ≡ w → totals-reads.Asked κs (r, (k, (t, tt)))
-  pub mean : (κs : Lfts 2) (r : RefT Words) (k : ℕ) (h : RefT ℕ) → now r ≡ w → mean-reads.Asked κs (r, (k, (h, tt)))
+  pub mean : (e : Energy) (κs : Lfts 2) (r : RefT Words) (k : ℕ) (h : RefT ℕ) → now r ≡ w → MeanAsked e κs r k h
 
 -- the exported `check` accepts words exactly where what the contracts require of them holds
 abbrev pub CheckDecides : Type 0

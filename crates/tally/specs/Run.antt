@@ -19,7 +19,8 @@ use Rattle.meter.proofs.analysis.Reads as analysis-reads
 use Rattle.meter.proofs.metering.Reads as metering-reads
 use Rattle.meter.proofs.totals.Reads as totals-reads
 use Rattle.meter.proofs.mean.Reads as mean-reads
-use Rattle.tally.specs.Tally.{analysis, metering, totals, mean, Call, on, Parts, Given, done, totalsAre, meanIs, Answer}
+use Rattle.meter.proofs.mean_inferior.Reads as mean-inferior-reads
+use Rattle.tally.specs.Tally.{Energy, superior, inferior, analysis, metering, totals, mean, Call, on, Parts, Given, done, totalsAre, meanIs, Answer}
 
 -- what the contract of each function requires
 abbrev pub AnalysisAsks : Lfts 1 → Meter → ℕ → RefT (List ℕ) → Type 0
@@ -31,8 +32,9 @@ MeteringAsks m k v = metering-reads.Asked tt (m, (k, (v, tt)))
 abbrev pub TotalsAsks : Meter → ℕ → Type 0
 TotalsAsks m k = totals-reads.Asked tt (m, (k, tt))
 
-abbrev pub MeanAsks : Meter → ℕ → Type 0
-MeanAsks m k = mean-reads.Asked tt (m, (k, tt))
+abbrev pub MeanAsks : Energy → Meter → ℕ → Type 0
+MeanAsks superior m k = mean-reads.Asked tt (m, (k, tt))
+MeanAsks inferior m k = mean-inferior-reads.Asked tt (m, (k, tt))
 
 -- what is known of a value that the function returned: where its contract's `requires` holds, its `ensures` does. What was passed by
 -- value, and what was lent by `&`, is at the exit what it was at the entry
@@ -48,8 +50,9 @@ MeteringReturns m k v r = MeteringAsks m k v → metering-reads.Learnt tt (m, (k
 abbrev pub TotalsReturns : Meter → ℕ → TotalsAnswer → Type 0
 TotalsReturns m k r = TotalsAsks m k → totals-reads.Learnt tt (m, (k, tt)) r (m, (k, tt))
 
-abbrev pub MeanReturns : Meter → ℕ → MeanAnswer → Type 0
-MeanReturns m k r = MeanAsks m k → mean-reads.Learnt tt (m, (k, tt)) r (m, (k, tt))
+abbrev pub MeanReturns : Energy → Meter → ℕ → MeanAnswer → Type 0
+MeanReturns superior m k r = MeanAsks superior m k → mean-reads.Learnt tt (m, (k, tt)) r (m, (k, tt))
+MeanReturns inferior m k r = MeanAsks inferior m k → mean-inferior-reads.Learnt tt (m, (k, tt)) r (m, (k, tt))
 
 -- document 01's number and values for each case of an answer
 abbrev pub changeAnswer : Verdict → Answer
@@ -59,7 +62,7 @@ abbrev pub partsGiven : Register → Parts
 partsGiven e = record { whole = e .whole; rest = e .rest }
 
 abbrev pub totalsGiven : StreamTotals → Given
-totalsGiven t = totalsAre (record { volume = t .volume; superior = partsGiven (t .superior) })
+totalsGiven t = totalsAre (record { volume = t .volume; superior = partsGiven (t .superior); inferior = partsGiven (t .inferior) })
 
 abbrev pub totalsAnswer : TotalsAnswer → Answer
 totalsAnswer r = mapped totalsGiven (totalsMeaning r)
@@ -74,7 +77,7 @@ pub data Step (m : Meter) : List Call → List Answer → Meter → Type 0 where
       Step m (on k (analysis (now b)) ∷ []) (changeAnswer (r .verdict) ∷ []) (r .meter)
   by-metering : (k v : ℕ) (r : Changed) → MeteringReturns m k v r → Step m (on k (metering v) ∷ []) (changeAnswer (r .verdict) ∷ []) (r .meter)
   by-totals : (k : ℕ) (r : TotalsAnswer) → TotalsReturns m k r → Step m (on k totals ∷ []) (totalsAnswer r ∷ []) m
-  by-mean : (k : ℕ) (r : MeanAnswer) → MeanReturns m k r → Step m (on k mean ∷ []) (meanAnswer r ∷ []) m
+  by-mean : (e : Energy) (k : ℕ) (r : MeanAnswer) → MeanReturns e m k r → Step m (on k (mean e) ∷ []) (meanAnswer r ∷ []) m
 
 -- a list of calls, each step on the meter as the one before returned or left it
 pub data Run : Meter → List Call → List Answer → Meter → Type 0 where

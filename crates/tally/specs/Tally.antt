@@ -11,7 +11,7 @@ use Rattle.rounding.specs.Fraction.{Fraction, whole, plus, times}
 use Rattle.records.specs.Order.{Order, Outcome, firstOf, decided, otherwise}
 use Rattle.records.specs.Format.{combustionIn, meteringIn, contentsIn}
 use Rattle.records.specs.Conditions.{recordOrder}
-use Rattle.properties.specs.Chain.{Hs}
+use Rattle.properties.specs.Chain.{Hs, Hi}
 use Rattle.properties.specs.Unrounded as unrounded
 
 -- the last stream; the most that one metering call adds, and that a volume total comes to, in dm³; mJ in 1 MJ
@@ -27,12 +27,18 @@ mostTotal = 999999999999
 abbrev pub perMJ : ℕ
 perMJ = 1000000000
 
--- what a call asks: an analysis with its record, a metering with its volume in dm³, or one of the two readings
+-- the energies of a stream: by Hs, and by Hi
+pub data Energy : Type 0 where
+  superior : Energy
+  inferior : Energy
+
+-- what a call asks: an analysis with its record, a metering with its volume in dm³, or a reading, of the totals or of the mean of an
+-- energy
 pub data Ask : Type 0 where
   analysis : List ℕ → Ask
   metering : ℕ → Ask
   totals : Ask
-  mean : Ask
+  mean : Energy → Ask
 
 -- a call: the stream that it names, and what it asks
 pub record Call : Type 0 where
@@ -47,12 +53,13 @@ pub record Parts : Type 0 where
   pub whole : ℕ
   pub rest : ℕ
 
--- the totals of a stream: the volume in dm³, and the energy by the superior calorific value as whole MJ and a rest in mJ
+-- the totals of a stream: the volume in dm³, and each energy as whole MJ and a rest in mJ
 pub record Totals : Type 0 where
   pub volume : ℕ
   pub superior : Parts
+  pub inferior : Parts
 
--- what an accepted call gives: an analysis or a metering only that it is done, a reading the totals, or the mean in J/m³
+-- what an accepted call gives: an analysis or a metering only that it is done, a reading the totals, or a mean in J/m³
 pub data Given : Type 0 where
   done : Given
   totalsAre : Totals → Given
@@ -75,19 +82,25 @@ partsOf u a = record { whole = a .booked / u; rest = a .booked % u }
 abbrev pub grown : ℕ → ℕ → Fraction → Account → Account
 grown v h x a = record { booked = a .booked + v * h; exact = plus (a .exact) (times v x) }
 
--- what the tally keeps for a stream: the record in force, the pair (combustion, metering), the volume V in dm³, and the energy by Hs
+-- what the tally keeps for a stream: the record in force, the pair (combustion, metering), the volume V in dm³, and an E and an X for
+-- each energy
 pub record StreamTally : Type 0 where
   pub inForce : Option (List ℕ)
   pub pair : Option (ℕ × ℕ)
   pub volume : ℕ
   pub superior : Account
+  pub inferior : Account
 
--- at first: no record, no pair, and V, E and X are 0
+abbrev pub accountOf : Energy → StreamTally → Account
+accountOf superior s = s .superior
+accountOf inferior s = s .inferior
+
+-- at first: no record, no pair, and V, each E and each X are 0
 abbrev pub noAccount : Account
 noAccount = record { booked = 0; exact = whole 0 }
 
 abbrev pub freshStreamTally : StreamTally
-freshStreamTally = record { inForce = none; pair = none; volume = 0; superior = noAccount }
+freshStreamTally = record { inForce = none; pair = none; volume = 0; superior = noAccount; inferior = noAccount }
 
 -- the streams 0 to 15
 pub record Tally : Type 0 where
@@ -131,15 +144,15 @@ abbrev pub noVolume : ℕ → Bool
 noVolume total = eqb total 0
 
 -- the conditions in the call's order, on the stream k with the tally's own pair, record and V: analysis 13, 1 to 12, 14; metering
--- 13, 15, 16, 17; totals 13; mean 13, 18
+-- 13, 15, 16, 17; totals 13; each mean 13, 18
 abbrev pub orderOf : ℕ → Ask → StreamTally → Order
 orderOf k (analysis bs) s = (13, aboveLast k) ∷ recordOrder bs ++ ((14, otherPair (s .pair) (combustionIn bs) (meteringIn bs)) ∷ [])
 orderOf k (metering v) s = (13, aboveLast k) ∷ (15, largeVolume v) ∷ (16, noRecord (s .inForce)) ∷ (17, wouldPass (s .volume) v) ∷ []
 orderOf k totals s = (13, aboveLast k) ∷ []
-orderOf k mean s = (13, aboveLast k) ∷ (18, noVolume (s .volume)) ∷ []
+orderOf k (mean e) s = (13, aboveLast k) ∷ (18, noVolume (s .volume)) ∷ []
 
--- an accepted volume v: V grows by v, E by v × Hs, X by v × the unrounded Hs, both of the record in force; with no record, 16 has
--- refused it
+-- an accepted volume v: V grows by v, one E by v × Hs and its X by v × the unrounded Hs, the other E and X by v × Hi and v × the
+-- unrounded Hi, all of the record in force; with no record, 16 has refused it
 abbrev pub meteredBy : Option (List ℕ) → ℕ → StreamTally → StreamTally
 meteredBy none v s = s
 meteredBy (some bs) v s =
@@ -148,21 +161,29 @@ meteredBy (some bs) v s =
       pair = s .pair;
       volume = s .volume + v;
       superior = grown v (Hs (contentsIn bs)) (unrounded.Hs (contentsIn bs)) (s .superior);
+      inferior = grown v (Hi (contentsIn bs)) (unrounded.Hi (contentsIn bs)) (s .inferior);
     }
 
 -- what an accepted call leaves: an analysis brings its record into force, and its pair is the stream's; a reading changes nothing
 abbrev pub leftBy : Ask → StreamTally → StreamTally
-leftBy (analysis bs) s = record { inForce = some bs; pair = some (combustionIn bs, meteringIn bs); volume = s .volume; superior = s .superior }
+leftBy (analysis bs) s =
+    record {
+      inForce = some bs;
+      pair = some (combustionIn bs, meteringIn bs);
+      volume = s .volume;
+      superior = s .superior;
+      inferior = s .inferior;
+    }
 leftBy (metering v) s = meteredBy (s .inForce) v s
 leftBy totals s = s
-leftBy mean s = s
+leftBy (mean e) s = s
 
--- what an accepted call answers: totals give V, and E as whole MJ and rest; the mean gives near(E / V)
+-- what an accepted call answers: totals give V, and each E as whole MJ and rest; a mean gives near(E / V)
 abbrev pub givenBy : Ask → StreamTally → Given
 givenBy (analysis bs) s = done
 givenBy (metering v) s = done
-givenBy totals s = totalsAre (record { volume = s .volume; superior = partsOf perMJ (s .superior) })
-givenBy mean s = meanIs (near (s .superior .booked) (s .volume))
+givenBy totals s = totalsAre (record { volume = s .volume; superior = partsOf perMJ (s .superior); inferior = partsOf perMJ (s .inferior) })
+givenBy (mean e) s = meanIs (near (accountOf e s .booked) (s .volume))
 
 -- one call: refused by the first condition that holds, and then the tally stays as it is, or accepted
 abbrev pub numberFor : Tally → Call → ℕ
