@@ -1,7 +1,9 @@
-// Makes 10,000,000 metering calls over all sixteen streams, and prints for each stream its number, volume, whole MJ, rest in mJ and mean.
+// Makes 10,000,000 metering calls over all sixteen streams, and prints for each stream its number, its volume, and of each energy whole MJ,
+// rest in mJ and mean.
 // rust/benches/meter.rs runs it, makes the same calls on meters in Rust, and compares what is printed and the times.
 use meter::MeanAnswer;
 use meter::Meter;
+use meter::Register;
 use meter::TotalsAnswer;
 ghost use mathlib.Core.Path.{_≡_};
 ghost use Rattle.meter.specs.State.{Sound};
@@ -48,22 +50,27 @@ fn metered(m: Meter) -> Meter
     after
 }
 
-// The line of a stream; none where a reading of it is refused.
+// An energy and its mean; nothing of them where the mean is refused.
+fn print_energy(energy: Register, answer: MeanAnswer) {
+    let MeanAnswer::Accepted(mean) = answer else {
+        return;
+    };
+    report::print_spaced(energy.whole);
+    report::print_spaced(energy.rest);
+    report::print_spaced(mean.value());
+}
+
+// The line of a stream; none where its totals are refused.
 fn print_stream(m: Meter, stream: usize)
     requires { ⌜ Sound m ⌝ }
 {
     let TotalsAnswer::Accepted(totals) = meter::totals(m, stream) else {
         return;
     };
-    let MeanAnswer::Accepted(mean) = meter::mean(m, stream) else {
-        return;
-    };
-    let energy = totals.superior;
     report::print_number(stream as u64);
     report::print_spaced(totals.volume);
-    report::print_spaced(energy.whole);
-    report::print_spaced(energy.rest);
-    report::print_spaced(mean.value());
+    print_energy(totals.superior, meter::mean(m, stream));
+    print_energy(totals.inferior, meter::mean_inferior(m, stream));
     report::end_line();
 }
 

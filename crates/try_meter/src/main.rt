@@ -8,6 +8,7 @@
 use libc::STDIN_FILENO;
 use meter::MeanAnswer;
 use meter::Meter;
+use meter::Register;
 use meter::TotalsAnswer;
 use records::Verdict;
 ghost use mathlib.Core.Path.{_≡_};
@@ -48,22 +49,28 @@ fn fill(m: Meter, stream: usize) -> Meter
     filled
 }
 
+fn print_energy(name: &[u8], energy: Register) {
+    report::print_text(name);
+    report::print_amount(energy.whole, b" MJ ");
+    report::print_amount(energy.rest, b" mJ");
+}
+
 fn print_totals(stream: usize, answer: TotalsAnswer) {
     print_call(b"totals", stream);
     match answer {
         TotalsAnswer::Accepted(t) => {
-            let energy = t.superior;
             report::print_text(b": ");
-            report::print_amount(t.volume, b" dm3, ");
-            report::print_amount(energy.whole, b" MJ ");
-            report::print_amount(energy.rest, b" mJ\n");
+            report::print_amount(t.volume, b" dm3");
+            print_energy(b", superior ", t.superior);
+            print_energy(b", inferior ", t.inferior);
+            report::print_text(b"\n");
         }
         TotalsAnswer::Refused(number) => print_refused(number),
     }
 }
 
-fn print_mean(stream: usize, answer: MeanAnswer) {
-    print_call(b"mean", stream);
+fn print_mean(name: &[u8], stream: usize, answer: MeanAnswer) {
+    print_call(name, stream);
     match answer {
         MeanAnswer::Accepted(h) => {
             report::print_text(b": ");
@@ -71,6 +78,19 @@ fn print_mean(stream: usize, answer: MeanAnswer) {
         }
         MeanAnswer::Refused(number) => print_refused(number),
     }
+}
+
+// The totals of a stream, and both its means.
+fn print_readings(m: Meter, stream: usize)
+    requires { ⌜ Sound m ⌝ }
+{
+    print_totals(stream, meter::totals(m, stream));
+    print_mean(b"mean", stream, meter::mean(m, stream));
+    print_mean(
+        b"mean inferior",
+        stream,
+        meter::mean_inferior(m, stream),
+    );
 }
 
 // Makes a call of the input, and gives the meter after it.
@@ -100,8 +120,7 @@ fn called(m: Meter, kind: u8, stream: usize, volume: u64, title: &[u8], bytes: &
     if kind == b'f' {
         return fill(m, stream);
     }
-    print_totals(stream, meter::totals(m, stream));
-    print_mean(stream, meter::mean(m, stream));
+    print_readings(m, stream);
     m
 }
 

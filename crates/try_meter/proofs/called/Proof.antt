@@ -18,7 +18,7 @@ returns-3 c =
     (rw (d .before .if3 .taken) (d .metering .ensures .stands), metering-keeps (s .args .m) (s .args .stream) (s .args .volume) _ _ (d .metering .ensures) (s .pre))
 
 returns-5 : tie.Need-returns-5
-returns-5 c = let e = c .before .before .before .before in
+returns-5 c = let e = c .before in
     (rw (ne-eqb _ 110 (e .before .before .before .if1 .left), ne-eqb _ 97 (e .before .before .if2 .left), ne-eqb _ 109 (e .before .if3 .left), ne-eqb _ 102 (e .if4 .left)), search needs)
 
 pub called-spec : {M : Type 1} → statement M
@@ -33,5 +33,5 @@ called-spec =
     returns-3
     (λ c κs. search needs)
     (λ c. (rw (c .before .if4 .taken) (c .fill .ensures .0), search needs))
-    (λ c κs. search needs) (λ c κs. search needs) (λ c κs. search needs) (λ c κs. search needs)
+    (λ c κs. search needs)
     returns-5)
