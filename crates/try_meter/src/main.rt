@@ -86,11 +86,7 @@ fn print_readings(m: Meter, stream: usize)
 {
     print_totals(stream, meter::totals(m, stream));
     print_mean(b"mean", stream, meter::mean(m, stream));
-    print_mean(
-        b"mean inferior",
-        stream,
-        meter::mean_inferior(m, stream),
-    );
+    print_mean(b"mean inferior", stream, meter::mean_inferior(m, stream));
 }
 
 // Makes a call of the input, and gives the meter after it.
