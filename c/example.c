@@ -1,4 +1,4 @@
-/* Meters methane on a stream and prints its totals and its mean; then writes the record of the gas of annex D of ISO 6976:1995, prints its
+/* Meters methane on a stream and prints its totals and both means; then writes the record of the gas of annex D of ISO 6976:1995, prints its
  * properties, and reads it again.
  *
  *     rt staticlib loonstool
@@ -21,13 +21,21 @@ static void print_properties(const struct loonstool_properties *p)
     printf("rho %" PRIu64 "\nd %" PRIu64 "\nW %" PRIu64 "\n", p->rho, p->d, p->w);
 }
 
+static void print_readings(const struct loonstool_totals *t, uint64_t mean, uint64_t mean_inferior)
+{
+    printf("volume %" PRIu64 " dm3\n", t->volume);
+    printf("superior energy %" PRIu64 " MJ %" PRIu64 " mJ\n", t->superior_mj, t->superior_rest);
+    printf("inferior energy %" PRIu64 " MJ %" PRIu64 " mJ\n", t->inferior_mj, t->inferior_rest);
+    printf("mean %" PRIu64 " J/m3\nmean inferior %" PRIu64 " J/m3\n", mean, mean_inferior);
+}
+
 /* A fresh meter refuses to meter before there is an analysis. With methane at 15/15 in force, it meters 1,000 dm3. */
 static int meter_methane(void)
 {
     const uint8_t methane[LOONSTOOL_RECORD_BYTES(1)] = {'G', 'C', 'R', 1, 0, 15, 15, 1, 1, 0x40, 0x42, 0x0f, 0};
     static struct loonstool_meter meter;
     struct loonstool_totals totals;
-    uint64_t mean;
+    uint64_t mean, mean_inferior;
     loonstool_meter_fresh(&meter);
     uint8_t number = loonstool_meter_metering(&meter, 0, 1000);
     printf("metering without an analysis: refused %" PRIu8 "\n", number);
@@ -45,9 +53,10 @@ static int meter_methane(void)
     number = loonstool_meter_mean(&meter, 0, &mean);
     if (number != LOONSTOOL_ACCEPTED)
         return refused("loonstool_meter_mean", number);
-    printf("volume %" PRIu64 " dm3\n", totals.volume);
-    printf("energy %" PRIu64 " MJ %" PRIu64 " mJ\n", totals.energy_mj, totals.energy_rest);
-    printf("mean %" PRIu64 " J/m3\n", mean);
+    number = loonstool_meter_mean_inferior(&meter, 0, &mean_inferior);
+    if (number != LOONSTOOL_ACCEPTED)
+        return refused("loonstool_meter_mean_inferior", number);
+    print_readings(&totals, mean, mean_inferior);
     return 0;
 }
 

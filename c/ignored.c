@@ -15,6 +15,7 @@ int main(void)
     loonstool_meter_metering(&meter, 0, 0);
     loonstool_meter_totals(&meter, 0, &totals);
     loonstool_meter_mean(&meter, 0, &mean);
+    loonstool_meter_mean_inferior(&meter, 0, &mean);
     loonstool_properties_of(NULL, 0, &properties);
     loonstool_read(NULL, 0, pair, pair + 1, &count, lines, fractions);
     loonstool_write(15, 15, NULL, 0, NULL, 0, NULL, 0);

@@ -70,6 +70,11 @@ static void meter_mean(void)
     number = loonstool_meter_mean(&meter, 15, &mean);
 }
 
+static void meter_mean_inferior(void)
+{
+    number = loonstool_meter_mean_inferior(&meter, 15, &mean);
+}
+
 static void fail(const char *what)
 {
     perror(what);
@@ -120,6 +125,7 @@ int main(void)
     wrong |= above("loonstool_meter_metering", meter_metering, LOONSTOOL_STACK_METER_METERING);
     wrong |= above("loonstool_meter_totals", meter_totals, LOONSTOOL_STACK_METER_TOTALS);
     wrong |= above("loonstool_meter_mean", meter_mean, LOONSTOOL_STACK_METER_MEAN);
+    wrong |= above("loonstool_meter_mean_inferior", meter_mean_inferior, LOONSTOOL_STACK_METER_MEAN_INFERIOR);
     wrong |= above("loonstool_meter_check", meter_check, LOONSTOOL_STACK_METER_CHECK);
     return wrong;
 }

@@ -24,19 +24,21 @@
  *
  * And for a meter, which is memory that the caller lends:
  *   - its words hold a meter: loonstool_meter_fresh made them and the other calls alone changed them, or loonstool_meter_check accepted
- *     them. On other words loonstool_meter_metering and loonstool_meter_mean promise nothing and may trap; loonstool_meter_totals stays
- *     within the memory that is lent, and promises no more; loonstool_meter_analysis leaves every other stream, and on a refusal all;
+ *     them. On other words loonstool_meter_metering, loonstool_meter_mean and loonstool_meter_mean_inferior promise nothing and may trap;
+ *     loonstool_meter_totals stays within the memory that is lent, and promises no more; loonstool_meter_analysis leaves every other
+ *     stream, and on a refusal all;
  *   - one call at a time on a meter, but for those that only read it. Several meters may run at once.
  *
  * Words that were restored go through loonstool_meter_check. It refuses a property above its ceiling or below its floor, which no accepted
  * record's is, an Hi above Hs, a rho that differs by more than 5 units from d times the density of air, a Wobbe index that is not that of
  * Hs and d, a pair that is not permitted, a stream without an analysis that is not 0 everywhere, a volume total above 999,999,999,999 dm3,
- * a rest of 10^9 mJ or more, and an energy that its volume cannot have. It cannot find a damage after which all of this holds, as it may
- * after a flipped bit of a volume total: that takes a checksum. Words kept by one version of the library go into another where
- * LOONSTOOL_STREAMS and LOONSTOOL_STREAM_WORDS are the same; before an update to one with other numbers the totals are read out.
+ * and of each energy, superior and inferior, a rest of 10^9 mJ or more and an amount that the volume cannot have; and an inferior energy
+ * above the superior one. It cannot find a damage after which all of this holds, as it may after a flipped bit of a volume total: that
+ * takes a checksum. Words kept by one version of the library go into another where LOONSTOOL_STREAMS and LOONSTOOL_STREAM_WORDS are the
+ * same; before an update to one with other numbers the totals are read out.
  *
  * Power cuts: a call is several stores, in no order that is promised. A cut between them leaves neither the meter before the call nor the
- * one after it, but, for instance, a volume without its energy, which loonstool_meter_check need not find. So firmware keeps the meter
+ * one after it, but, for instance, a volume without its energies, which loonstool_meter_check need not find. So firmware keeps the meter
  * twice in memory that outlasts a cut, each copy with a counter, which says which is newer, and a checksum. It takes the newer copy, makes
  * the call, and stores the outcome over the older copy, which is marked as unfinished before its first word changes and gets its checksum
  * after the last. At every moment one copy is whole, and after a restart the newest whole one is the meter before the call or the one
@@ -101,29 +103,33 @@ enum loonstool_number {
 
 /* Bytes of stack that a call takes at most, the 128 below the stack pointer included, and beside what memcpy and memset take. */
 #define LOONSTOOL_STACK_METER_FRESH 200
-#define LOONSTOOL_STACK_METER_CHECK 200
+#define LOONSTOOL_STACK_METER_CHECK 300
 #define LOONSTOOL_STACK_METER_ANALYSIS 400
 #define LOONSTOOL_STACK_METER_METERING 200
 #define LOONSTOOL_STACK_METER_TOTALS 200
 #define LOONSTOOL_STACK_METER_MEAN 200
+#define LOONSTOOL_STACK_METER_MEAN_INFERIOR 200
 #define LOONSTOOL_STACK_PROPERTIES_OF 400
 #define LOONSTOOL_STACK_READ 1000
 #define LOONSTOOL_STACK_WRITE 400
 
 /* The streams of a meter, 0 to 15, and the words that each has. */
 #define LOONSTOOL_STREAMS 16
-#define LOONSTOOL_STREAM_WORDS 12
+#define LOONSTOOL_STREAM_WORDS 14
 
 /* A meter. Its words are for the calls below alone, and to be saved and restored as they are. */
 struct loonstool_meter {
     uint64_t words[LOONSTOOL_STREAMS][LOONSTOOL_STREAM_WORDS];
 };
 
-/* The totals of a stream. Its energy, of superior heat and without rounding, is 10^9 x energy_mj + energy_rest mJ. */
+/* The totals of a stream. Its energies are without rounding: the superior one, of Hs, is 10^9 x superior_mj + superior_rest mJ, and the
+ * inferior one, of Hi, 10^9 x inferior_mj + inferior_rest mJ. */
 struct loonstool_totals {
-    uint64_t volume;      /* dm3, never above 999,999,999,999 */
-    uint64_t energy_mj;   /* whole MJ */
-    uint64_t energy_rest; /* mJ, below 1,000,000,000 */
+    uint64_t volume;        /* dm3, never above 999,999,999,999 */
+    uint64_t superior_mj;   /* whole MJ of the superior energy */
+    uint64_t superior_rest; /* mJ, below 1,000,000,000 */
+    uint64_t inferior_mj;   /* whole MJ of the inferior energy, which is never above the superior one */
+    uint64_t inferior_rest; /* mJ, below 1,000,000,000 */
 };
 
 /* Makes a fresh meter: no stream has an analysis, all totals are 0. */
@@ -138,8 +144,8 @@ bool loonstool_meter_check(const struct loonstool_meter *m);
 LOONSTOOL_MUST_USE
 uint8_t loonstool_meter_analysis(struct loonstool_meter *m, size_t stream, const uint8_t *bytes, size_t length);
 
-/* Adds a volume in dm3, at most 10,000,000, to the volume total of a stream, and volume x Hs of the record in force to its energy. Refused
- * by 13, 15, 16 and 17, tried in that order. */
+/* Adds a volume in dm3, at most 10,000,000, to the volume total of a stream, volume x Hs of the record in force to its superior energy, and
+ * volume x Hi to its inferior energy. Refused by 13, 15, 16 and 17, tried in that order. */
 LOONSTOOL_MUST_USE
 uint8_t loonstool_meter_metering(struct loonstool_meter *m, size_t stream, uint64_t volume);
 
@@ -147,10 +153,14 @@ uint8_t loonstool_meter_metering(struct loonstool_meter *m, size_t stream, uint6
 LOONSTOOL_MUST_USE
 uint8_t loonstool_meter_totals(const struct loonstool_meter *m, size_t stream, struct loonstool_totals *totals);
 
-/* The mean calorific value of a stream in J/m3: its energy / its volume total, to the nearest, halves upward. Refused by 13 and 18, tried
- * in that order. */
+/* The mean superior calorific value of a stream in J/m3: its superior energy / its volume total, to the nearest, halves upward. Refused by
+ * 13 and 18, tried in that order. */
 LOONSTOOL_MUST_USE
 uint8_t loonstool_meter_mean(const struct loonstool_meter *m, size_t stream, uint64_t *mean);
+
+/* The mean inferior calorific value of a stream in J/m3: the same of its inferior energy, and refused by the same numbers. */
+LOONSTOOL_MUST_USE
+uint8_t loonstool_meter_mean_inferior(const struct loonstool_meter *m, size_t stream, uint64_t *mean);
 
 /* The six properties. None passes the ceiling beside it. */
 struct loonstool_properties {
