@@ -160,3 +160,9 @@ uint8_t keep_mean(const struct keep *keep, size_t stream, uint64_t *mean)
     union copy copy;
     return load_newer(keep, &copy) ? loonstool_meter_mean(&copy.parts.meter, stream, mean) : KEEP_LOST;
 }
+
+uint8_t keep_mean_inferior(const struct keep *keep, size_t stream, uint64_t *mean)
+{
+    union copy copy;
+    return load_newer(keep, &copy) ? loonstool_meter_mean_inferior(&copy.parts.meter, stream, mean) : KEEP_LOST;
+}

@@ -84,6 +84,9 @@ uint8_t keep_totals(const struct keep *keep, size_t stream, struct loonstool_tot
 LOONSTOOL_MUST_USE
 uint8_t keep_mean(const struct keep *keep, size_t stream, uint64_t *mean);
 
+LOONSTOOL_MUST_USE
+uint8_t keep_mean_inferior(const struct keep *keep, size_t stream, uint64_t *mean);
+
 #ifdef __cplusplus
 }
 #endif

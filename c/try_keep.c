@@ -226,15 +226,21 @@ static void try_cuts(const struct call *call, const struct loonstool_meter *befo
     expect(made, "a call that no cut falls into is made", count);
 }
 
+/* The means, superior and inferior, of a meter that is kept and of one that is not. */
+static __typeof__(keep_mean) *const kept_means[2] = {keep_mean, keep_mean_inferior};
+static __typeof__(loonstool_meter_mean) *const means[2] = {loonstool_meter_mean, loonstool_meter_mean_inferior};
+
 /* Every stream's readings are those of a meter. */
 static void expect_readings(const struct keep *keep, const struct loonstool_meter *meter)
 {
     for (size_t stream = 0; stream <= LOONSTOOL_STREAMS; stream++) {
-        struct loonstool_totals totals = {0, 0, 0}, kept_totals = {0, 0, 0};
-        uint64_t mean = 0, kept_mean = 0;
+        struct loonstool_totals totals = {0, 0, 0, 0, 0}, kept_totals = {0, 0, 0, 0, 0};
+        uint64_t mean[2] = {0, 0}, kept_mean[2] = {0, 0};
         expect(keep_totals(keep, stream, &kept_totals) == loonstool_meter_totals(meter, stream, &totals), "the number of totals", stream);
-        expect(keep_mean(keep, stream, &kept_mean) == loonstool_meter_mean(meter, stream, &mean), "the number of a mean", stream);
-        expect(memcmp(&kept_totals, &totals, sizeof totals) == 0 && kept_mean == mean, "readings", stream);
+        expect(memcmp(&kept_totals, &totals, sizeof totals) == 0, "totals", stream);
+        for (size_t i = 0; i < 2; i++)
+            expect(kept_means[i](keep, stream, &kept_mean[i]) == means[i](meter, stream, &mean[i]), "the number of a mean", stream);
+        expect(memcmp(kept_mean, mean, sizeof mean) == 0, "means", stream);
     }
 }
 
@@ -274,7 +280,7 @@ static void flip(size_t copy, size_t bit)
 static void expect_lost(struct keep *keep, const char *what, size_t at)
 {
     static const uint8_t methane[] = {'G', 'C', 'R', 1, 0, 15, 15, 1, 1, 0x40, 0x42, 0x0f, 0};
-    const struct loonstool_totals untouched = {16, 16, 16};
+    const struct loonstool_totals untouched = {16, 16, 16, 16, 16};
     uint64_t image[KEEP_WORDS], mean = 16;
     struct loonstool_totals totals = untouched;
     memcpy(image, kept, sizeof image);
@@ -282,7 +288,8 @@ static void expect_lost(struct keep *keep, const char *what, size_t at)
     expect(keep_metering(keep, 0, 0) == KEEP_LOST, what, at);
     expect(keep_mend(keep) == KEEP_LOST, what, at);
     expect(keep_totals(keep, 0, &totals) == KEEP_LOST && memcmp(&totals, &untouched, sizeof totals) == 0, what, at);
-    expect(keep_mean(keep, 0, &mean) == KEEP_LOST && mean == 16, what, at);
+    for (size_t i = 0; i < 2; i++)
+        expect(kept_means[i](keep, 0, &mean) == KEEP_LOST && mean == 16, what, at);
     expect(memcmp(kept, image, sizeof image) == 0, what, at);
 }
 
