@@ -13,21 +13,32 @@
 #include "loonstool.h"
 
 _Static_assert(sizeof(struct loonstool_properties) == 6 * 8, "the library fills six numbers of 64 bits");
-_Static_assert(sizeof(struct loonstool_totals) == 3 * 8, "the library fills three numbers of 64 bits");
+_Static_assert(sizeof(struct loonstool_totals) == 5 * 8, "the library fills five numbers of 64 bits");
 
 __extension__ typedef unsigned __int128 wide;
 
 enum { K1_BYTES = LOONSTOOL_RECORD_BYTES(8), K2_BYTES = LOONSTOOL_RECORD_BYTES(1), ROOM = 300, DRAWS = 20000 };
 
 /* The words of a stream. */
-enum { ANALYSED, COMBUSTION, METERING, Z, HS, HI, RHO, D, W, VOLUME, ENERGY_MJ, ENERGY_REST, WORDS };
+enum {
+    ANALYSED, COMBUSTION, METERING, Z, HS, HI, RHO, D, W, VOLUME, SUPERIOR_MJ, SUPERIOR_REST, INFERIOR_MJ, INFERIOR_REST, WORDS
+};
 
 _Static_assert(WORDS == LOONSTOOL_STREAM_WORDS, "each word of a stream has a name");
 
 /* The highest that each word of a stream can be, and the lowest where it has an analysis. */
-static const uint64_t highest[WORDS] = {1,         25,        20,        1000000000,   250000000,    250000000,
-                                        510000000, 390000000, 470000000, 999999999999, 249999999999, 999999999};
-static const uint64_t lowest[WORDS] = {1, 0, 0, 724000000, 16680000, 16680000, 33000000, 27590000, 3880000, 0, 0, 0};
+static const uint64_t highest[WORDS] = {1,         25,        20,           1000000000,   250000000, 250000000,    510000000,
+                                        390000000, 470000000, 999999999999, 249999999999, 999999999, 249999999999, 999999999};
+static const uint64_t lowest[WORDS] = {1, 0, 0, 724000000, 16680000, 16680000, 33000000, 27590000, 3880000, 0, 0, 0, 0, 0};
+
+/* mJ in a MJ. */
+static const uint64_t megajoule = 1000000000;
+
+/* Hs and Hi of methane at 15/15. */
+static const uint64_t methane_hs = 37781616, methane_hi = 34015574;
+
+/* Both means, superior and inferior. */
+static __typeof__(loonstool_meter_mean) *const means[2] = {loonstool_meter_mean, loonstool_meter_mean_inferior};
 
 static const uint8_t pairs[6][2] = {{15, 15}, {0, 0}, {15, 0}, {25, 0}, {20, 20}, {25, 20}};
 
@@ -302,16 +313,29 @@ static void make_fresh(void)
     saved = *meter;
 }
 
-/* Totals and mean of a stream, whose meter may not be written meanwhile. */
-static void expect_readings(size_t stream, struct loonstool_totals right, uint64_t right_mean)
+/* Totals and means of a stream that metered a volume of methane at 15/15; the meter may not be written meanwhile. */
+static void expect_readings(size_t stream, uint64_t volume)
 {
+    const uint64_t heats[2] = {methane_hs, methane_hi};
+    const wide superior = (wide)volume * methane_hs, inferior = (wide)volume * methane_hi;
+    const struct loonstool_totals right = {volume, (uint64_t)(superior / megajoule), (uint64_t)(superior % megajoule),
+                                           (uint64_t)(inferior / megajoule), (uint64_t)(inferior % megajoule)};
     let_write_meter(false);
     expect(loonstool_meter_totals(meter, stream, totals) == LOONSTOOL_ACCEPTED, "totals", stream);
-    expect(loonstool_meter_mean(meter, stream, mean) == LOONSTOOL_ACCEPTED, "a mean", stream);
-    let_write_meter(true);
     expect(memcmp(totals, &right, sizeof right) == 0, "the totals of methane", stream);
-    expect(*mean == right_mean, "the mean of methane", stream);
+    for (size_t i = 0; i < 2; i++) {
+        expect(means[i](meter, stream, mean) == LOONSTOOL_ACCEPTED, "a mean", stream);
+        expect(*mean == heats[i], "the mean of methane", stream);
+    }
+    let_write_meter(true);
     mark_filled();
+}
+
+/* Both means of a stream are refused by a number. */
+static void expect_no_means(size_t stream, uint8_t number, const char *what)
+{
+    for (size_t i = 0; i < 2; i++)
+        expect_left(means[i](meter, stream, mean), number, what, stream);
 }
 
 static const uint64_t far_streams[] = {16, 17, 255, 256, 1ULL << 32, (1ULL << 32) + 3, 1ULL << 63, UINT64_MAX};
@@ -330,7 +354,7 @@ static void try_far_streams(void)
         expect_left(loonstool_meter_metering(meter, stream, 0), LOONSTOOL_STREAM_ABOVE, "metering, a stream above 15", stream);
         expect_left(loonstool_meter_metering(meter, stream, UINT64_MAX), LOONSTOOL_STREAM_ABOVE, "too much, a stream above 15", stream);
         expect_left(loonstool_meter_totals(meter, stream, totals), LOONSTOOL_STREAM_ABOVE, "totals, a stream above 15", stream);
-        expect_left(loonstool_meter_mean(meter, stream, mean), LOONSTOOL_STREAM_ABOVE, "a mean, a stream above 15", stream);
+        expect_no_means(stream, LOONSTOOL_STREAM_ABOVE, "a mean, a stream above 15");
     }
 }
 
@@ -351,13 +375,13 @@ static void try_streams(void)
         const uint8_t *pair = pairs[stream % 6], *other_pair = pairs[(stream + 1) % 6];
         expect_left(loonstool_meter_metering(meter, stream, 0), LOONSTOOL_NO_ANALYSIS, "no analysis", stream);
         expect_left(loonstool_meter_metering(meter, stream, 10000000), LOONSTOOL_NO_ANALYSIS, "no analysis", stream);
-        expect_left(loonstool_meter_mean(meter, stream, mean), LOONSTOOL_TOTAL_ZERO, "a mean without an analysis", stream);
+        expect_no_means(stream, LOONSTOOL_TOTAL_ZERO, "a mean without an analysis");
         expect_accepted(loonstool_meter_analysis(meter, stream, methane_at(pair), K2_BYTES), stream, "an analysis");
-        expect_left(loonstool_meter_mean(meter, stream, mean), LOONSTOOL_TOTAL_ZERO, "a mean at volume 0", stream);
+        expect_no_means(stream, LOONSTOOL_TOTAL_ZERO, "a mean at volume 0");
         expect_left(loonstool_meter_analysis(meter, stream, methane_at(other_pair), K2_BYTES), LOONSTOOL_PAIR_DIFFERS, "a pair", stream);
         expect_accepted(loonstool_meter_metering(meter, stream, pair == pairs[0] ? 1000 : stream), stream, "metering");
         if (pair == pairs[0])
-            expect_readings(stream, (struct loonstool_totals){1000, 37, 781616000}, 37781616);
+            expect_readings(stream, 1000);
     }
 }
 
@@ -373,7 +397,6 @@ static void try_streams_again(void)
 /* A stream of methane at 15/15 up to 999,999,999,999 dm3, and 17 from there. */
 static void try_full_stream(void)
 {
-    const wide energy = (wide)highest[VOLUME] * 37781616;
     expect_accepted(loonstool_meter_analysis(meter, 0, methane_at(pairs[0]), K2_BYTES), 0, "an analysis");
     uint64_t left = highest[VOLUME] - meter->words[0][VOLUME];
     while (left > 10000000 && loonstool_meter_metering(meter, 0, 10000000) == LOONSTOOL_ACCEPTED)
@@ -386,8 +409,7 @@ static void try_full_stream(void)
     expect_left(loonstool_meter_metering(meter, 0, 1), LOONSTOOL_TOTAL_PASSES, "a full stream", 0);
     expect_left(loonstool_meter_metering(meter, 0, 10000001), LOONSTOOL_VOLUME_ABOVE, "15 before 17", 0);
     expect_accepted(loonstool_meter_metering(meter, 0, 0), 0, "nothing more on a full stream");
-    const struct loonstool_totals full = {highest[VOLUME], (uint64_t)(energy / 1000000000), (uint64_t)(energy % 1000000000)};
-    expect_readings(0, full, 37781616);
+    expect_readings(0, highest[VOLUME]);
 }
 
 /* The greatest whole number whose square is at most n. */
@@ -417,12 +439,24 @@ static uint64_t by_air(uint64_t temperature, uint64_t d)
     return (uint64_t)((d * air + 500000000) / 1000000000);
 }
 
+/* An energy of a stream in mJ, whose rest follows its whole MJ. */
+static wide energy_of(const uint64_t *words, size_t mj)
+{
+    return (wide)words[mj] * megajoule + words[mj + 1];
+}
+
+/* Whether an energy lies between volume x the floor and volume x the ceiling of a calorific value. */
+static bool volume_has(const uint64_t *words, wide energy, size_t heat)
+{
+    return energy >= (wide)words[VOLUME] * lowest[heat] && energy <= (wide)words[VOLUME] * highest[heat];
+}
+
 /* Whether the words of a stream can be those of a meter: each lies between its lowest and its highest, Hi is not above Hs, rho differs by
- * at most 5 from d times the density of air, W is the index of Hs and d, and the energy lies between volume x the floor and volume x the
- * ceiling of Hs; without an analysis all are 0. */
+ * at most 5 from d times the density of air, W is the index of Hs and d, each energy is one that the volume can have, and the inferior one
+ * is not above the superior one; without an analysis all are 0. */
 static bool can_be(const uint64_t *words)
 {
-    wide energy = (wide)words[ENERGY_MJ] * 1000000000 + words[ENERGY_REST];
+    wide superior = energy_of(words, SUPERIOR_MJ), inferior = energy_of(words, INFERIOR_MJ);
     uint64_t density = by_air(words[METERING], words[D]);
     bool permitted = false;
     if (words[ANALYSED] == 0)
@@ -433,8 +467,8 @@ static bool can_be(const uint64_t *words)
     for (size_t i = 0; i < 6; i++)
         permitted |= words[COMBUSTION] == pairs[i][0] && words[METERING] == pairs[i][1];
     return permitted && words[HI] <= words[HS] && words[RHO] <= density + 5 && density <= words[RHO] + 5 &&
-           words[W] == index_of(words[HS], words[D]) &&
-           energy >= (wide)words[VOLUME] * lowest[HS] && energy <= (wide)words[VOLUME] * highest[HS];
+           words[W] == index_of(words[HS], words[D]) && volume_has(words, superior, HS) && volume_has(words, inferior, HI) &&
+           inferior <= superior;
 }
 
 /* loonstool_meter_check gives what it should on the words as they are, and does not write to them. */
@@ -468,18 +502,27 @@ static void try_word(size_t stream, size_t word)
     words[word] = was;
 }
 
-/* The least or the most energy that the volume of a stream can have, and one mJ, one MJ and one rest more and less. */
-static void try_energy(size_t stream, uint64_t heat)
+/* Sets an energy of a stream, of which some MJ stand in the rest. */
+static void put_energy(uint64_t *words, size_t mj, wide energy, uint64_t in_rest)
+{
+    words[mj] = (uint64_t)(energy / megajoule) - in_rest;
+    words[mj + 1] = (uint64_t)(energy % megajoule) + in_rest * megajoule;
+}
+
+/* Both energies of a stream, each with each: the least and the most that its volume can have, and a whole MJ between them, and one mJ and
+ * one MJ more and less; so is the inferior one equal to the superior one, or one mJ above, also where that is a whole MJ more. Then the
+ * same energies with a MJ in the rest. */
+static void try_energies(size_t stream)
 {
     uint64_t *words = meter->words[stream];
-    const wide bound = (wide)words[VOLUME] * heat;
-    const uint64_t mj = (uint64_t)(bound / 1000000000), rest = (uint64_t)(bound % 1000000000);
-    const uint64_t energies[][2] = {{mj, rest},  {mj, rest + 1}, {mj, rest - 1}, {mj + 1, rest},
-                                   {mj + 1, 0}, {mj - 1, rest}, {mj - 1, rest + 1000000000}};
-    for (size_t i = 0; i < sizeof energies / sizeof *energies; i++) {
-        words[ENERGY_MJ] = energies[i][0];
-        words[ENERGY_REST] = energies[i][1];
-        expect_check("energy at its bound", stream);
+    const wide between = (wide)words[SUPERIOR_MJ] * megajoule;
+    const wide bounds[3] = {(wide)words[VOLUME] * lowest[HS], between, (wide)words[VOLUME] * highest[HS]};
+    const wide steps[5] = {0, 1, megajoule, -(wide)1, -(wide)megajoule};
+    for (size_t i = 0; i < 15 * 15 * 4; i++) {
+        size_t superior = i / 4 / 15, inferior = i / 4 % 15;
+        put_energy(words, SUPERIOR_MJ, bounds[superior / 5] + steps[superior % 5], i / 2 % 2);
+        put_energy(words, INFERIOR_MJ, bounds[inferior / 5] + steps[inferior % 5], i % 2);
+        expect_check("energies at their bounds", stream);
     }
     memcpy(words, saved.words[stream], sizeof saved.words[stream]);
 }
@@ -520,8 +563,7 @@ static void try_damages(void)
     for (size_t stream = 0; stream < LOONSTOOL_STREAMS; stream++) {
         for (size_t word = 0; word < WORDS; word++)
             try_word(stream, word);
-        try_energy(stream, lowest[HS]);
-        try_energy(stream, highest[HS]);
+        try_energies(stream);
         try_limits(stream);
         try_pairs(stream);
     }
