@@ -10,6 +10,7 @@
 #[path = "../tests/plain/mod.rs"]
 mod plain;
 
+use loonstool::Totals;
 use plain::Meter;
 use std::hint::black_box;
 use std::process::Command;
@@ -95,13 +96,22 @@ fn by_call(mut meter: Meter) -> Meter {
     meter
 }
 
-/// A line for each stream with its number, volume, MJ, rest and mean.
+/// A line for each stream with its number, volume, MJ and rest of the superior
+/// and of the inferior energy, and both means.
 fn readings(meter: &Meter) -> String {
     let mut text = String::new();
     for stream in 0..STREAMS {
-        let (volume, energy, rest) = meter.totals(stream).expect("the stream exists");
+        let Totals {
+            volume,
+            superior_mj,
+            superior_rest,
+            inferior_mj,
+            inferior_rest,
+        } = meter.totals(stream).expect("the stream exists");
         let mean = meter.mean(stream).expect("the volume is above 0");
-        text += &format!("{stream} {volume} {energy} {rest} {mean}\n");
+        let mean_inferior = meter.mean_inferior(stream).expect("the volume is above 0");
+        text += &format!("{stream} {volume} {superior_mj} {superior_rest} ");
+        text += &format!("{inferior_mj} {inferior_rest} {mean} {mean_inferior}\n");
     }
     text
 }

@@ -2,7 +2,7 @@
 //! repository, which also has the format of an analysis record and its limits). The library is for x86-64; what it asks of a program
 //! without an operating system (SSE switched on, `memcpy` and `memset`, 128 bytes below the stack pointer) the header says.
 //!
-//! A [`Meter`] adds up volume and energy of sixteen streams of natural gas:
+//! A [`Meter`] adds up volume, superior energy and inferior energy of sixteen streams of natural gas:
 //!
 //! ```
 //! use loonstool::{Meter, Refusal};
@@ -16,8 +16,10 @@
 //!
 //! let totals = meter.totals(0)?;
 //! assert_eq!(totals.volume, 1_000); // dm³
-//! assert_eq!((totals.energy_mj, totals.energy_rest), (37, 781_616_000)); // MJ and mJ
+//! assert_eq!((totals.superior_mj, totals.superior_rest), (37, 781_616_000)); // MJ and mJ
+//! assert_eq!((totals.inferior_mj, totals.inferior_rest), (34, 15_574_000));
 //! assert_eq!(meter.mean(0)?, 37_781_616); // J/m³
+//! assert_eq!(meter.mean_inferior(0)?, 34_015_574);
 //! # Ok::<(), Refusal>(())
 //! ```
 //!
@@ -34,7 +36,7 @@
 //! ```
 //!
 //! The exported functions take whatever bytes and numbers they are given. What they require of a caller is that pointers are valid
-//! for their lengths, aligned, and that what is filled or changed overlaps nothing else. Rust's slices and `&mut` have all of that. Two
+//! for their lengths, aligned, and that what is filled or changed overlaps nothing else. Rust's slices and `&mut` have all of that. Three
 //! of them also require words that hold a meter; a [`Meter`] has no others. So there is nothing left to test.
 #![no_std]
 #![warn(missing_docs)]

@@ -7,7 +7,7 @@ use core::mem::{offset_of, size_of, MaybeUninit};
 pub const STREAMS: usize = 16;
 
 /// The words in which a meter keeps a stream.
-pub const STREAM_WORDS: usize = 12;
+pub const STREAM_WORDS: usize = 14;
 
 /// The words of a meter, to be saved and restored whole. What each of them is belongs to the library.
 pub type Words = [[u64; STREAM_WORDS]; STREAMS];
@@ -18,17 +18,22 @@ pub type Words = [[u64; STREAM_WORDS]; STREAMS];
 pub struct Totals {
     /// Volume, dm³, at most 999,999,999,999.
     pub volume: u64,
-    /// Energy, whole MJ.
-    pub energy_mj: u64,
-    /// Energy past the whole MJ, mJ, below 10^9.
-    pub energy_rest: u64,
+    /// Superior energy, whole MJ.
+    pub superior_mj: u64,
+    /// Superior energy past the whole MJ, mJ, below 10^9.
+    pub superior_rest: u64,
+    /// Inferior energy, whole MJ. It is never above the superior one.
+    pub inferior_mj: u64,
+    /// Inferior energy past the whole MJ, mJ, below 10^9.
+    pub inferior_rest: u64,
 }
 
-// The library fills three numbers of 64 bits in document 01's order.
+// The library fills five numbers of 64 bits, in the header's order.
 const _: () = {
-    assert!(size_of::<Totals>() == 24);
+    assert!(size_of::<Totals>() == 40);
     assert!(offset_of!(Totals, volume) == 0);
-    assert!(offset_of!(Totals, energy_mj) == 8 && offset_of!(Totals, energy_rest) == 16);
+    assert!(offset_of!(Totals, superior_mj) == 8 && offset_of!(Totals, superior_rest) == 16);
+    assert!(offset_of!(Totals, inferior_mj) == 24 && offset_of!(Totals, inferior_rest) == 32);
 };
 
 /// Words that hold no meter.
@@ -60,17 +65,22 @@ extern "sysv64" {
     fn loonstool_meter_totals(m: *const Words, stream: usize, totals: *mut Totals) -> u8;
 
     fn loonstool_meter_mean(m: *const Words, stream: usize, mean: *mut u64) -> u8;
+
+    fn loonstool_meter_mean_inferior(m: *const Words, stream: usize, mean: *mut u64) -> u8;
 }
 
+/// A function of the library that answers a mean of a stream.
+type Mean = unsafe extern "sysv64" fn(*const Words, usize, *mut u64) -> u8;
+
 /// A meter of sixteen streams, 0 to 15, which its calls change in place. A stream takes an analysis, meters volumes, and answers its
-/// totals and its mean calorific value. A refused call leaves all of the meter as it was, an accepted one every other stream.
+/// totals and its mean calorific values. A refused call leaves all of the meter as it was, an accepted one every other stream.
 ///
 /// # Power cuts
 ///
 /// A caller whose meter has to outlast a power cut saves its [`words`](Meter::words), all of them, and restores the meter by
 /// [`from_words`](Meter::from_words). A call borrows the meter mutably, so `words` are those before a call or those after it, never
 /// those of a call that is half made. But the power may fail between two stores: of saving, or of a call where the meter itself lies
-/// in memory that keeps its contents. The words left then may be those of another meter, with a volume and without its energy.
+/// in memory that keeps its contents. The words left then may be those of another meter, with a volume and without its energies.
 /// `from_words` refuses words that hold no meter; it cannot refuse those that hold a wrong one. So a caller keeps two copies, each with
 /// a counter and a checksum, saves over the older one, and after a restart takes the newer one whose checksum is right. `c/keep.c` in
 /// the repository does that.
@@ -94,13 +104,13 @@ extern "sysv64" {
 /// ```
 #[derive(Debug, Clone, PartialEq, Eq)]
 pub struct Meter {
-    // They hold a meter, which `metering` and `mean` of the library require: they were filled by `fresh` or accepted by `check`, and
+    // They hold a meter, which `metering` and both means of the library require: they were filled by `fresh` or accepted by `check`, and
     // changed by `analysis` and `metering` alone. No function lends them to be changed.
     words: Words,
 }
 
 impl Meter {
-    /// A meter whose streams have no analysis, volume 0 and energy 0.
+    /// A meter whose streams have no analysis, volume 0 and both energies 0.
     #[must_use]
     #[inline]
     pub fn new() -> Self {
@@ -116,7 +126,8 @@ impl Meter {
     /// of them, as it does of every meter: each stream has words of 0 alone, or a permitted pair, properties from
     /// [`FLOORS`](crate::Properties::FLOORS) to [`CEILINGS`](crate::Properties::CEILINGS) with Hi not above Hs, rho at most 5 units from d
     /// times the density of air at the metering temperature, and the Wobbe index that of Hs and d, a volume of at most 999,999,999,999 dm³,
-    /// a rest below 10^9 mJ, and an energy that its volume can have at Hs between floor and ceiling.
+    /// of each energy a rest below 10^9 mJ and an amount that the volume can have at Hs, or Hi, between floor and ceiling, and an inferior
+    /// energy not above the superior one.
     #[inline]
     pub fn from_words(words: Words) -> Result<Self, NotAMeter> {
         // SAFETY: `words` is ours; the call takes whatever words they are.
@@ -144,8 +155,8 @@ impl Meter {
         Refusal::unless_accepted(number)
     }
 
-    /// Adds a volume in dm³ to a stream, and its energy, the volume times Hs of the analysis in force, without rounding. Refused by 13,
-    /// 15, 16 and 17, tried in that order.
+    /// Adds a volume in dm³ to a stream, and its energies without rounding: the volume times Hs of the analysis in force to the superior
+    /// one, the volume times Hi to the inferior one. Refused by 13, 15, 16 and 17, tried in that order.
     #[inline]
     pub fn metering(&mut self, stream: usize, volume: u64) -> Result<(), Refusal> {
         // SAFETY: the words are borrowed mutably, and hold a meter, as the field says.
@@ -153,24 +164,36 @@ impl Meter {
         Refusal::unless_accepted(number)
     }
 
-    /// The volume and the energy of a stream. Refused by 13.
+    /// The volume and both energies of a stream. Refused by 13.
     #[inline]
     pub fn totals(&self, stream: usize) -> Result<Totals, Refusal> {
         let mut totals = MaybeUninit::uninit();
         // SAFETY: the words are borrowed, and `totals` is ours.
         let number = unsafe { loonstool_meter_totals(&self.words, stream, totals.as_mut_ptr()) };
         Refusal::unless_accepted(number)?;
-        // SAFETY: an accepted call fills all three.
+        // SAFETY: an accepted call fills all five.
         Ok(unsafe { totals.assume_init() })
     }
 
-    /// The mean calorific value of a stream in J/m³: its energy by its volume, to the nearest whole number, halves upward. Refused by 13
-    /// and 18, tried in that order.
+    /// The mean superior calorific value of a stream in J/m³: its superior energy by its volume, to the nearest whole number, halves
+    /// upward. Refused by 13 and 18, tried in that order.
     #[inline]
     pub fn mean(&self, stream: usize) -> Result<u64, Refusal> {
+        self.mean_by(loonstool_meter_mean, stream)
+    }
+
+    /// The mean inferior calorific value of a stream in J/m³: the same of its inferior energy, and refused by the same numbers.
+    #[inline]
+    pub fn mean_inferior(&self, stream: usize) -> Result<u64, Refusal> {
+        self.mean_by(loonstool_meter_mean_inferior, stream)
+    }
+
+    /// A mean of a stream, by one of the two functions of the library.
+    #[inline]
+    fn mean_by(&self, function: Mean, stream: usize) -> Result<u64, Refusal> {
         let mut mean = MaybeUninit::uninit();
         // SAFETY: the words are borrowed, and hold a meter, as the field says; `mean` is ours.
-        let number = unsafe { loonstool_meter_mean(&self.words, stream, mean.as_mut_ptr()) };
+        let number = unsafe { function(&self.words, stream, mean.as_mut_ptr()) };
         Refusal::unless_accepted(number)?;
         // SAFETY: an accepted call fills it.
         Ok(unsafe { mean.assume_init() })

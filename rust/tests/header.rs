@@ -206,7 +206,7 @@ fn totals() {
     let in_c = fields(HEADER, "struct loonstool_totals {", "uint64_t ");
     let here = fields(WRAPPERS[1], "pub struct Totals {", "pub ");
     assert_eq!(in_c, here);
-    assert_eq!(here.len(), 3);
+    assert_eq!(here.len(), 5);
 }
 
 #[test]

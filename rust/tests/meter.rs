@@ -42,7 +42,7 @@ const SAMPLED: u64 = 30;
 /// After one call of so many the words are saved and restored.
 const RESTORED: u64 = 64;
 
-/// The numbers of each order, and the places of the calls in the counts.
+/// The numbers of each order, that of both means the same, and the places of the calls in the counts.
 const OF_ANALYSIS: [u8; 14] = [13, 1, 2, 3, 4, 5, 6, 7, 8, 9, 10, 11, 12, 14];
 const OF_METERING: [u8; 4] = [13, 15, 16, 17];
 const OF_TOTALS: [u8; 1] = [13];
@@ -51,6 +51,7 @@ const ANALYSIS: usize = 0;
 const METERING: usize = 1;
 const TOTALS: usize = 2;
 const MEAN: usize = 3;
+const MEAN_INFERIOR: usize = 4;
 
 fn main() -> ExitCode {
     CALLS.main(compare_all)
@@ -111,7 +112,7 @@ fn accepted_record(random: &mut Random) -> Vec<u8> {
 
 /// How often what occurred.
 struct Counts {
-    answers: Answers<4>,
+    answers: Answers<5>,
     lists: u64,
     /// Lists that began with a stream that calls filled.
     filled: u64,
@@ -136,6 +137,7 @@ impl Counts {
                 ("metering", &OF_METERING),
                 ("totals", &OF_TOTALS),
                 ("mean", &OF_MEAN),
+                ("mean inferior", &OF_MEAN),
             ]),
             lists: 0,
             filled: 0,
@@ -151,9 +153,10 @@ impl Counts {
     /// Books a call's answer, and whether a metering call went to the limit of a stream with the given room.
     fn book(&mut self, call: &Call, room: Option<u64>, answer: &Answer) {
         match answer {
-            Answer::Read(totals, mean) => {
-                self.answers.book(TOTALS, totals);
-                self.answers.book(MEAN, mean);
+            Answer::Read(reading) => {
+                self.answers.book(TOTALS, &reading.totals);
+                self.answers.book(MEAN, &reading.mean);
+                self.answers.book(MEAN_INFERIOR, &reading.mean_inferior);
             }
             Answer::Changed(given) if call.kind == b'm' => {
                 self.answers.book(METERING, given);
@@ -168,7 +171,7 @@ impl Counts {
 
     fn print(&self) {
         self.answers.print();
-        println!("(a reading is a call of totals and one of mean; calls that fill a stream are among those of metering)");
+        println!("(a reading is a call of totals and one of each mean; calls that fill a stream are among those of metering)");
         println!(
             "{} random calls in {} lists; words restored {} times",
             self.calls, self.lists, self.restored
@@ -219,7 +222,7 @@ impl Meters {
     /// What a stream takes until its volume total is the greatest, dm³.
     fn room(&self, stream: usize) -> Option<u64> {
         let totals = self.plain.totals(stream).ok();
-        totals.map(|(volume, ..)| GREATEST_TOTAL - volume)
+        totals.map(|totals| GREATEST_TOTAL - totals.volume)
     }
 
     /// Puts a gas in force on a stream, and meters until one call more can fill it.
@@ -275,7 +278,7 @@ impl Meters {
         Ok(())
     }
 
-    /// Compares every stream: words, totals and mean, and these with the exact ones.
+    /// Compares every stream: words, totals and means, and energies and means with the exact ones.
     fn compare_whole(&mut self) -> Result<(), String> {
         let words = words_of(&self.plain);
         same(&words, self.proved.words(), || String::from("all words"))?;
@@ -286,7 +289,7 @@ impl Meters {
         for k in 0..=STREAMS {
             self.answer(&call(b'r', k, 0))?;
             let is_near = self.tally.as_ref().is_none_or(|tally| tally.is_near(k));
-            let what = || format!("stream {k}: whether energy and mean are near the exact ones");
+            let what = || format!("stream {k}: whether energies and means are near the exact ones");
             same(&true, &is_near, what)?;
         }
         Ok(())

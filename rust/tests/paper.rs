@@ -1,12 +1,14 @@
-//! Document 01's cases K1 to K9, further gases, and each refusal number of a
-//! record and the writer, on the library and the plain version; K10 on the
-//! plain version.
+//! Document 01's cases K1 to K9, further gases, the inferior energy of K9, and
+//! each refusal number of a record and the writer, on the library and the plain
+//! version; K10 on the plain version.
 
+mod calls;
 mod cases;
 mod plain;
 
+use calls::{analysis, call, Answer, Reading, TakesCalls};
 use cases::{record, K1, K1_PROPERTIES, K2};
-use loonstool::{Analysis, Properties, Refusal, Totals};
+use loonstool::{Analysis, Properties, Refusal};
 use plain::table::TABLE;
 
 /// What both sides answer.
@@ -110,25 +112,47 @@ fn gases_written_and_read_again() {
     }
 }
 
+/// What the plain meter, the tally and the library read after the calls of K9.
+fn k9() -> [Reading; 3] {
+    let meters: [Box<dyn TakesCalls>; 3] = [
+        Box::new(plain::Meter::fresh()),
+        Box::new(plain::Tally::fresh()),
+        Box::new(loonstool::Meter::default()),
+    ];
+    meters.map(|mut meter| {
+        let metering = call(b'm', 0, 1_000);
+        assert_eq!(meter.answer(&metering), Answer::Changed(Err(16)));
+        for accepted in [analysis(0, "", &K2), metering] {
+            assert_eq!(meter.answer(&accepted), Answer::Changed(Ok(())));
+        }
+        match meter.answer(&call(b'r', 0, 0)) {
+            Answer::Read(reading) => reading,
+            other => panic!("a reading answers {other:?}"),
+        }
+    })
+}
+
 #[test]
 fn k9_fresh_stream() {
-    let mut meter = plain::Meter::fresh();
-    assert_eq!(meter.metering(0, 1_000), Err(16));
-    assert_eq!(meter.analysis(0, &K2), Ok(()));
-    assert_eq!(meter.metering(0, 1_000), Ok(()));
-    assert_eq!(meter.totals(0), Ok((1_000, 37, 781_616_000)));
-    assert_eq!(meter.mean(0), Ok(37_781_616));
-    let mut meter = loonstool::Meter::default();
-    assert_eq!(meter.metering(0, 1_000), Err(Refusal::NO_ANALYSIS));
-    assert_eq!(meter.analysis(0, &K2), Ok(()));
-    assert_eq!(meter.metering(0, 1_000), Ok(()));
-    let totals = Totals {
-        volume: 1_000,
-        energy_mj: 37,
-        energy_rest: 781_616_000,
-    };
-    assert_eq!(meter.totals(0), Ok(totals));
-    assert_eq!(meter.mean(0), Ok(37_781_616));
+    for reading in k9() {
+        let totals = reading.totals.unwrap();
+        assert_eq!(totals.volume, 1_000);
+        assert_eq!(
+            (totals.superior_mj, totals.superior_rest),
+            (37, 781_616_000)
+        );
+        assert_eq!(reading.mean, Ok(37_781_616));
+    }
+}
+
+/// Computed by the plain version; the paper prints no inferior energy.
+#[test]
+fn k9_inferior_energy() {
+    for reading in k9() {
+        let totals = reading.totals.unwrap();
+        assert_eq!((totals.inferior_mj, totals.inferior_rest), (34, 15_574_000));
+        assert_eq!(reading.mean_inferior, Ok(34_015_574));
+    }
 }
 
 #[test]

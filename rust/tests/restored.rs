@@ -12,7 +12,7 @@ use calls::{analysis, call, Answer, Call, TakesCalls};
 use cases::{every_line, record, K1, K2};
 use loonstool::{Meter, NotAMeter, Properties, Words, STREAMS, STREAM_WORDS};
 use plain::conditions::Conditions;
-use plain::meter::{InForce, GREATEST_TOTAL, GREATEST_VOLUME, MEGAJOULE};
+use plain::meter::{Energy, InForce, GREATEST_TOTAL, GREATEST_VOLUME, MEGAJOULE};
 use plain::properties::{air_density, by_air, index};
 use plain::words::{hold_a_meter, meter_of, words_of};
 use records::{Random, PAIRS};
@@ -300,29 +300,41 @@ fn index_at_its_ceiling() {
     assert!([high.w, high.w + 1].iter().all(|w| tried.contains(w)));
 }
 
+/// Energies of a volume: the least and the most that it can have, and a whole MJ between them, one mJ more and less, and each of these
+/// once more with a rest that is too great, where there is a whole MJ.
+fn energies(volume: u64) -> Vec<Energy> {
+    let mega = u128::from(MEGAJOULE);
+    let [low, high] = [Properties::FLOORS.hs, Properties::CEILINGS.hs]
+        .map(|calorific| u128::from(volume) * u128::from(calorific));
+    let energy = |energy: u128| {
+        let (whole, rest) = ((energy / mega) as u64, (energy % mega) as u64);
+        [(whole, rest), (whole.saturating_sub(1), rest + MEGAJOULE)]
+            .map(|(whole, rest)| Energy { whole, rest })
+    };
+    [low, (low + high) / 2 / mega * mega, high]
+        .into_iter()
+        .flat_map(|bound| [bound.saturating_sub(1), bound, bound + 1])
+        .flat_map(energy)
+        .collect()
+}
+
 #[test]
-fn energy_at_its_bound() {
+fn energies_at_their_bounds() {
     let mut counts = Counts::default();
     let (mut meter, mut random) = (metered(), Random::new(SEED));
-    let some = (0..2_000).map(|_| random.below(GREATEST_TOTAL + 1));
-    for volume in (0..2_000).chain(some).chain([GREATEST_TOTAL]) {
-        let bounds = [Properties::FLOORS.hs, Properties::CEILINGS.hs];
-        let bounds = bounds.map(|hs| u128::from(volume) * u128::from(hs));
-        for energy in bounds
-            .into_iter()
-            .flat_map(|bound| [bound.saturating_sub(1), bound, bound + 1])
+    let some = (0..500).map(|_| random.below(GREATEST_TOTAL + 1));
+    for volume in (0..500).chain(some).chain([GREATEST_TOTAL]) {
+        let energies = energies(volume);
+        for (superior, inferior) in energies
+            .iter()
+            .flat_map(|superior| energies.iter().map(move |inferior| (*superior, *inferior)))
         {
-            let mega = u128::from(MEGAJOULE);
-            let (whole, rest) = ((energy / mega) as u64, (energy % mega) as u64);
-            // The second is the same energy with a rest that is too great, where there is a whole MJ.
-            for (whole, rest) in [(whole, rest), (whole.saturating_sub(1), rest + MEGAJOULE)] {
-                let stream = &mut meter.streams[DAMAGED];
-                (stream.volume, stream.energy, stream.rest) = (volume, whole, rest);
-                counts.restore(&words_of(&meter), DAMAGED);
-            }
+            let stream = &mut meter.streams[DAMAGED];
+            (stream.volume, stream.superior, stream.inferior) = (volume, superior, inferior);
+            counts.restore(&words_of(&meter), DAMAGED);
         }
     }
-    counts.print("energy at its bound", 1_000);
+    counts.print("energies at their bounds, each with each", 1_000);
 }
 
 #[test]

@@ -41,8 +41,15 @@ pub fn analysis(stream: usize, title: &'static str, record: &[u8]) -> Call {
 pub enum Answer {
     /// To an analysis or a metering call.
     Changed(Result<(), u8>),
-    /// To a reading: totals as volume, whole MJ and rest, and the mean.
-    Read(Result<(u64, u64, u64), u8>, Result<u64, u8>),
+    Read(Reading),
+}
+
+/// The three answers to a reading.
+#[derive(Debug, Clone, Copy, PartialEq)]
+pub struct Reading {
+    pub totals: Result<Totals, u8>,
+    pub mean: Result<u64, u8>,
+    pub mean_inferior: Result<u64, u8>,
 }
 
 /// What takes the calls `a`, `m` and `r`.
@@ -58,7 +65,11 @@ macro_rules! takes_calls {
                 match call.kind {
                     b'a' => Answer::Changed(self.analysis(k, &call.record)),
                     b'm' => Answer::Changed(self.metering(k, call.volume)),
-                    _ => Answer::Read(self.totals(k), self.mean(k)),
+                    _ => Answer::Read(Reading {
+                        totals: self.totals(k),
+                        mean: self.mean(k),
+                        mean_inferior: self.mean_inferior(k),
+                    }),
                 }
             }
         })*
@@ -70,14 +81,14 @@ takes_calls!(Meter, Tally);
 impl TakesCalls for loonstool::Meter {
     fn answer(&mut self, call: &Call) -> Answer {
         let k = call.stream;
-        let three = |of: Totals| (of.volume, of.energy_mj, of.energy_rest);
         match call.kind {
             b'a' => Answer::Changed(self.analysis(k, &call.record).map_err(Refusal::number)),
             b'm' => Answer::Changed(self.metering(k, call.volume).map_err(Refusal::number)),
-            _ => Answer::Read(
-                self.totals(k).map(three).map_err(Refusal::number),
-                self.mean(k).map_err(Refusal::number),
-            ),
+            _ => Answer::Read(Reading {
+                totals: self.totals(k).map_err(Refusal::number),
+                mean: self.mean(k).map_err(Refusal::number),
+                mean_inferior: self.mean_inferior(k).map_err(Refusal::number),
+            }),
         }
     }
 }
@@ -133,9 +144,9 @@ pub fn printed(list: &[Call]) -> String {
             continue;
         }
         text += &match answer(call) {
-            Answer::Read(totals, mean) => {
+            Answer::Read(reading) => {
                 assert!(tally.is_near(k), "stream {k}: too far from exact");
-                reading(k, totals, mean)
+                lines_of(k, &reading)
             }
             Answer::Changed(given) if call.kind == b'm' => {
                 format!("metering {k} {volume}: {}\n", verdict(given))
@@ -146,11 +157,26 @@ pub fn printed(list: &[Call]) -> String {
     text
 }
 
-fn reading(k: usize, totals: Result<(u64, u64, u64), u8>, mean: Result<u64, u8>) -> String {
-    let totals = totals.map(|(volume, whole, rest)| format!("{volume} dm3, {whole} MJ {rest} mJ"));
-    let mean = mean.map(|mean| format!("{mean} J/m3"));
-    let [totals, mean] = [totals, mean].map(|answer| answer.unwrap_or_else(|n| verdict(Err(n))));
-    format!("totals {k}: {totals}\nmean {k}: {mean}\n")
+/// A line for each answer to a reading of a stream.
+fn lines_of(k: usize, reading: &Reading) -> String {
+    let mean = |mean: u64| format!("{mean} J/m3");
+    [
+        ("totals", reading.totals.map(text_of)),
+        ("mean", reading.mean.map(mean)),
+        ("mean inferior", reading.mean_inferior.map(mean)),
+    ]
+    .map(|(call, answer)| {
+        let answer = answer.unwrap_or_else(|number| verdict(Err(number)));
+        format!("{call} {k}: {answer}\n")
+    })
+    .concat()
+}
+
+fn text_of(totals: Totals) -> String {
+    let energy = |name, whole, rest| format!(", {name} {whole} MJ {rest} mJ");
+    format!("{} dm3", totals.volume)
+        + &energy("superior", totals.superior_mj, totals.superior_rest)
+        + &energy("inferior", totals.inferior_mj, totals.inferior_rest)
 }
 
 /// The words for a call that is accepted or refused.

@@ -1,6 +1,7 @@
 //! The meter of sixteen streams.
 
 use super::properties::{properties_of, six};
+use loonstool::Totals;
 
 const STREAMS: usize = 16;
 pub const GREATEST_VOLUME: u64 = 10_000_000;
@@ -17,15 +18,41 @@ pub struct InForce {
     pub six: [u32; 6],
 }
 
+/// An energy register.
+#[derive(Debug, Clone, Copy)]
+pub struct Energy {
+    /// Whole MJ.
+    pub whole: u64,
+    /// mJ past the whole MJ, below 10^9.
+    pub rest: u64,
+}
+
+impl Energy {
+    /// Adds a volume in dm³ at a calorific value in J/m³, which makes mJ.
+    fn add(&mut self, volume: u64, calorific: u32) {
+        let energy = self.rest + volume * u64::from(calorific);
+        self.whole += energy / MEGAJOULE;
+        self.rest = energy % MEGAJOULE;
+    }
+
+    /// The mean calorific value over a volume: energy by volume, to the nearest.
+    fn mean(&self, volume: u64) -> Result<u64, u8> {
+        if volume == 0 {
+            return Err(18);
+        }
+        let volume = u128::from(volume);
+        let energy = u128::from(self.whole) * u128::from(MEGAJOULE) + u128::from(self.rest);
+        Ok(((energy + volume / 2) / volume) as u64)
+    }
+}
+
 #[derive(Debug, Clone, Copy)]
 pub struct Stream {
     pub in_force: Option<InForce>,
     /// dm³.
     pub volume: u64,
-    /// Whole MJ.
-    pub energy: u64,
-    /// mJ past the whole MJ, below 10^9.
-    pub rest: u64,
+    pub superior: Energy,
+    pub inferior: Energy,
 }
 
 #[derive(Debug, Clone)]
@@ -42,11 +69,12 @@ pub struct Changed {
 impl Meter {
     /// A meter without analyses, volumes and energies 0.
     pub fn fresh() -> Self {
+        let energy = Energy { whole: 0, rest: 0 };
         let stream = Stream {
             in_force: None,
             volume: 0,
-            energy: 0,
-            rest: 0,
+            superior: energy,
+            inferior: energy,
         };
         Self {
             streams: [stream; STREAMS],
@@ -66,7 +94,7 @@ impl Meter {
         Ok(())
     }
 
-    /// Adds a volume in dm³ and its energy.
+    /// Adds a volume in dm³ and its energies.
     pub fn metering(&mut self, stream: usize, volume: u64) -> Result<(), u8> {
         let stream = self.streams.get_mut(stream).ok_or(13)?;
         if volume > GREATEST_VOLUME {
@@ -77,10 +105,10 @@ impl Meter {
         if total > GREATEST_TOTAL {
             return Err(17);
         }
-        let energy = stream.rest + volume * u64::from(in_force.six[1]);
+        let [_, hs, hi, ..] = in_force.six;
         stream.volume = total;
-        stream.energy += energy / MEGAJOULE;
-        stream.rest = energy % MEGAJOULE;
+        stream.superior.add(volume, hs);
+        stream.inferior.add(volume, hi);
         Ok(())
     }
 
@@ -99,20 +127,27 @@ impl Meter {
         self.metering_by_value(stream, volume)
     }
 
-    /// Volume in dm³, energy in whole MJ and its rest in mJ.
-    pub fn totals(&self, stream: usize) -> Result<(u64, u64, u64), u8> {
+    /// Volume in dm³, both energies in whole MJ and their rests in mJ.
+    pub fn totals(&self, stream: usize) -> Result<Totals, u8> {
         let stream = self.streams.get(stream).ok_or(13)?;
-        Ok((stream.volume, stream.energy, stream.rest))
+        Ok(Totals {
+            volume: stream.volume,
+            superior_mj: stream.superior.whole,
+            superior_rest: stream.superior.rest,
+            inferior_mj: stream.inferior.whole,
+            inferior_rest: stream.inferior.rest,
+        })
     }
 
-    /// The mean calorific value in J/m³: energy by volume, to the nearest.
+    /// The mean superior calorific value in J/m³.
     pub fn mean(&self, stream: usize) -> Result<u64, u8> {
-        let (volume, energy, rest) = self.totals(stream)?;
-        if volume == 0 {
-            return Err(18);
-        }
-        let volume = u128::from(volume);
-        let energy = u128::from(energy) * u128::from(MEGAJOULE) + u128::from(rest);
-        Ok(((energy + volume / 2) / volume) as u64)
+        let stream = self.streams.get(stream).ok_or(13)?;
+        stream.superior.mean(stream.volume)
+    }
+
+    /// The mean inferior calorific value in J/m³.
+    pub fn mean_inferior(&self, stream: usize) -> Result<u64, u8> {
+        let stream = self.streams.get(stream).ok_or(13)?;
+        stream.inferior.mean(stream.volume)
     }
 }

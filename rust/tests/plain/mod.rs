@@ -1,7 +1,7 @@
 //! Gas properties and stream energy in plain Rust, written from the paper
 //! alone, but for `words`, which has the library's own order and limits.
-//! Refusals are the paper's numbers; properties and what is read have the
-//! library's types.
+//! Refusals are the paper's numbers; properties, totals and what is read have
+//! the library's types.
 
 // Each test and benchmark that includes this module uses a part of it.
 #![allow(dead_code, unused_imports)]

@@ -33,17 +33,15 @@ pub fn six(p: &Properties) -> [u64; 6] {
     [p.z, p.hs, p.hi, p.rho, p.d, p.w]
 }
 
-/// The unrounded Hs of a record in J/m³, with Z = 1 − (S / 10^10)².
-pub fn unrounded_hs(record: &[u8]) -> Result<Fraction, u8> {
+/// The unrounded Hs and Hi of a record in J/m³, with Z = 1 − (S / 10^10)².
+pub fn unrounded_hs_and_hi(record: &[u8]) -> Result<[Fraction; 2], u8> {
     const ONE: u128 = 100_000_000_000_000_000_000;
     let checked = check(record)?;
     let sums = Sums::over(checked.entries(), &checked.conditions);
     let z = ONE - u128::from(sums.factor.unsigned_abs()).pow(2);
     let d = u128::from(checked.conditions.d);
-    Ok(Fraction::new(
-        &[sums.superior.into(), 1_013_250, ONE],
-        &[d, z],
-    ))
+    let real = |sum: u64| Fraction::new(&[sum.into(), 1_013_250, ONE], &[d, z]);
+    Ok([sums.superior, sums.inferior].map(real))
 }
 
 /// The sums over all lines, without rounding.

@@ -1,18 +1,88 @@
 //! The tally: what the calls of a list add up to, booked and exact.
 
 use super::fraction::Fraction;
-use super::properties::{properties_of, unrounded_hs};
+use super::properties::{properties_of, unrounded_hs_and_hi};
+use loonstool::Totals;
 
+/// A calorific value in J/m³, rounded and unrounded.
 #[derive(Clone)]
-struct Stream {
-    /// The pair, and Hs in J/m³, rounded and unrounded.
-    in_force: Option<((u8, u8), u64, Fraction)>,
-    /// V, dm³.
-    volume: u64,
+struct Calorific {
+    rounded: u64,
+    unrounded: Fraction,
+}
+
+/// What a stream's volumes add up to at one of the two calorific values.
+#[derive(Clone)]
+struct Account {
     /// E, mJ.
     booked: u128,
     /// X, mJ.
     exact: Fraction,
+}
+
+impl Account {
+    fn empty() -> Self {
+        Self {
+            booked: 0,
+            exact: Fraction::new(&[0], &[1]),
+        }
+    }
+
+    fn add(&mut self, volume: u64, calorific: &Calorific) {
+        self.booked += u128::from(volume) * u128::from(calorific.rounded);
+        self.exact.add_times(volume, &calorific.unrounded);
+    }
+
+    /// E as whole MJ and rest.
+    fn whole_and_rest(&self) -> (u64, u64) {
+        let (whole, rest) = (self.booked / 1_000_000_000, self.booked % 1_000_000_000);
+        (whole as u64, rest as u64)
+    }
+
+    /// near(E / V).
+    fn mean(&self, volume: u64) -> Result<u64, u8> {
+        let volume = u128::from(volume);
+        let mean = (2 * self.booked + volume).checked_div(2 * volume);
+        mean.map(|mean| mean as u64).ok_or(18)
+    }
+
+    /// Whether E is within 2 mJ per dm³ of X, and the mean, where there is one, within 3 J/m³ of X / V.
+    fn is_near(&self, volume: u64) -> bool {
+        let mean = u128::from(self.mean(volume).unwrap_or(0));
+        let volume = u128::from(volume);
+        self.exact.is_within(2 * volume, self.booked)
+            && self.exact.is_within(3 * volume, mean * volume)
+    }
+}
+
+/// What a stream's last accepted analysis fixes.
+#[derive(Clone)]
+struct InForce {
+    pair: (u8, u8),
+    hs: Calorific,
+    hi: Calorific,
+}
+
+impl InForce {
+    fn of(record: &[u8]) -> Result<Self, u8> {
+        let properties = properties_of(record)?;
+        let [hs, hi] = unrounded_hs_and_hi(record)?;
+        let calorific = |rounded, unrounded| Calorific { rounded, unrounded };
+        Ok(Self {
+            pair: (record[5], record[6]),
+            hs: calorific(properties.hs, hs),
+            hi: calorific(properties.hi, hi),
+        })
+    }
+}
+
+#[derive(Clone)]
+struct Stream {
+    in_force: Option<InForce>,
+    /// V, dm³.
+    volume: u64,
+    superior: Account,
+    inferior: Account,
 }
 
 pub struct Tally {
@@ -24,8 +94,8 @@ impl Tally {
         let stream = Stream {
             in_force: None,
             volume: 0,
-            booked: 0,
-            exact: Fraction::new(&[0], &[1]),
+            superior: Account::empty(),
+            inferior: Account::empty(),
         };
         Self {
             streams: vec![stream; 16],
@@ -34,16 +104,12 @@ impl Tally {
 
     pub fn analysis(&mut self, stream: usize, record: &[u8]) -> Result<(), u8> {
         let stream = self.streams.get_mut(stream).ok_or(13)?;
-        let (hs, unrounded) = (properties_of(record)?.hs, unrounded_hs(record)?);
-        let pair = (record[5], record[6]);
-        if stream
-            .in_force
-            .as_ref()
-            .is_some_and(|(of_stream, ..)| *of_stream != pair)
-        {
+        let gas = InForce::of(record)?;
+        let earlier = stream.in_force.as_ref();
+        if earlier.is_some_and(|earlier| earlier.pair != gas.pair) {
             return Err(14);
         }
-        stream.in_force = Some((pair, hs, unrounded));
+        stream.in_force = Some(gas);
         Ok(())
     }
 
@@ -52,39 +118,46 @@ impl Tally {
         if volume > 10_000_000 {
             return Err(15);
         }
-        let (_, hs, unrounded) = stream.in_force.as_ref().ok_or(16)?;
+        let gas = stream.in_force.as_ref().ok_or(16)?;
         if stream.volume + volume > 999_999_999_999 {
             return Err(17);
         }
         stream.volume += volume;
-        stream.booked += u128::from(volume) * u128::from(*hs);
-        stream.exact.add_times(volume, unrounded);
+        stream.superior.add(volume, &gas.hs);
+        stream.inferior.add(volume, &gas.hi);
         Ok(())
     }
 
-    /// V, and E as whole MJ and rest.
-    pub fn totals(&self, stream: usize) -> Result<(u64, u64, u64), u8> {
+    /// V, and each E as whole MJ and rest.
+    pub fn totals(&self, stream: usize) -> Result<Totals, u8> {
         let stream = self.streams.get(stream).ok_or(13)?;
-        let (whole, rest) = (stream.booked / 1_000_000_000, stream.booked % 1_000_000_000);
-        Ok((stream.volume, whole as u64, rest as u64))
+        let (superior_mj, superior_rest) = stream.superior.whole_and_rest();
+        let (inferior_mj, inferior_rest) = stream.inferior.whole_and_rest();
+        Ok(Totals {
+            volume: stream.volume,
+            superior_mj,
+            superior_rest,
+            inferior_mj,
+            inferior_rest,
+        })
     }
 
-    /// near(E / V).
+    /// near(E / V), with the E of Hs.
     pub fn mean(&self, stream: usize) -> Result<u64, u8> {
         let stream = self.streams.get(stream).ok_or(13)?;
-        let volume = u128::from(stream.volume);
-        let mean = (2 * stream.booked + volume).checked_div(2 * volume);
-        mean.map(|mean| mean as u64).ok_or(18)
+        stream.superior.mean(stream.volume)
     }
 
-    /// Whether E of a stream is within 2 mJ per dm³ of X, and its mean, where it has one, within 3 J/m³ of X / V. A stream above 15 has
-    /// neither.
+    /// near(E / V), with the E of Hi.
+    pub fn mean_inferior(&self, stream: usize) -> Result<u64, u8> {
+        let stream = self.streams.get(stream).ok_or(13)?;
+        stream.inferior.mean(stream.volume)
+    }
+
+    /// Whether both E of a stream are near their X, and both means near X / V. A stream above 15 has none of them.
     pub fn is_near(&self, stream: usize) -> bool {
-        let mean = self.mean(stream).unwrap_or(0);
-        self.streams.get(stream).is_none_or(|s| {
-            let volume = u128::from(s.volume);
-            s.exact.is_within(2 * volume, s.booked)
-                && s.exact.is_within(3 * volume, u128::from(mean) * volume)
-        })
+        self.streams
+            .get(stream)
+            .is_none_or(|s| s.superior.is_near(s.volume) && s.inferior.is_near(s.volume))
     }
 }

@@ -2,7 +2,7 @@
 //! which words hold a meter.
 
 use super::conditions::Conditions;
-use super::meter::{InForce, Meter, Stream, GREATEST_TOTAL, MEGAJOULE};
+use super::meter::{Energy, InForce, Meter, Stream, GREATEST_TOTAL, MEGAJOULE};
 use super::properties::{by_air, index, six};
 use loonstool::{Properties, Words, STREAM_WORDS};
 
@@ -23,9 +23,9 @@ pub fn row_of(stream: &Stream) -> [u64; STREAM_WORDS] {
     };
     let [combustion, metering] = [pair.0, pair.1].map(u64::from);
     let [z, hs, hi, rho, d, w] = six.map(u64::from);
-    let (volume, whole, rest) = (stream.volume, stream.energy, stream.rest);
+    let (volume, s, i) = (stream.volume, stream.superior, stream.inferior);
     [
-        1, combustion, metering, z, hs, hi, rho, d, w, volume, whole, rest,
+        1, combustion, metering, z, hs, hi, rho, d, w, volume, s.whole, s.rest, i.whole, i.rest,
     ]
 }
 
@@ -38,7 +38,7 @@ pub fn hold_a_meter(words: &Words) -> bool {
 }
 
 fn holds_a_stream(row: [u128; STREAM_WORDS]) -> bool {
-    let [analysed, combustion, metering, z, hs, hi, rho, d, w, volume, whole, rest] = row;
+    let [analysed, combustion, metering, z, hs, hi, rho, d, w, volume, energies @ ..] = row;
     let floors = six(&Properties::FLOORS).map(u128::from);
     let ceilings = six(&Properties::CEILINGS).map(u128::from);
     let within = |conditions: Conditions| {
@@ -49,16 +49,25 @@ fn holds_a_stream(row: [u128; STREAM_WORDS]) -> bool {
             && rho.abs_diff(by_air(d as u64, &conditions).into()) <= AIR_DISTANCE
             && w == index(hs as u64, d as u64).into()
     };
-    // Every dm³ was metered at an Hs between its floor and its ceiling.
-    let energy = whole * u128::from(MEGAJOULE) + rest;
+    let [superior, superior_rest, inferior, inferior_rest] = energies;
+    let mega = u128::from(MEGAJOULE);
+    let [superior, inferior] = [
+        superior * mega + superior_rest,
+        inferior * mega + inferior_rest,
+    ];
+    // Every dm³ was metered at an Hs and an Hi between floor and ceiling.
+    let has =
+        |energy: u128, i: usize| (volume * floors[i]..=volume * ceilings[i]).contains(&energy);
     match analysed {
         // Nothing is metered without an analysis.
         0 => row == [0; STREAM_WORDS],
         1 => {
             permitted(combustion, metering).is_some_and(within)
                 && volume <= GREATEST_TOTAL.into()
-                && rest < MEGAJOULE.into()
-                && (volume * floors[1]..=volume * ceilings[1]).contains(&energy)
+                && superior_rest.max(inferior_rest) < mega
+                && has(superior, 1)
+                && has(inferior, 2)
+                && inferior <= superior
         }
         _ => false,
     }
@@ -75,7 +84,9 @@ pub fn meter_of(words: &Words) -> Meter {
 }
 
 fn stream_of(row: [u64; STREAM_WORDS]) -> Stream {
-    let [analysed, combustion, metering, z, hs, hi, rho, d, w, volume, energy, rest] = row;
+    let [analysed, combustion, metering, z, hs, hi, rho, d, w, volume, energies @ ..] = row;
+    let [superior, superior_rest, inferior, inferior_rest] = energies;
+    let energy = |whole, rest| Energy { whole, rest };
     let in_force = InForce {
         pair: (combustion as u8, metering as u8),
         six: [z, hs, hi, rho, d, w].map(|property| property as u32),
@@ -83,7 +94,7 @@ fn stream_of(row: [u64; STREAM_WORDS]) -> Stream {
     Stream {
         in_force: (analysed == 1).then_some(in_force),
         volume,
-        energy,
-        rest,
+        superior: energy(superior, superior_rest),
+        inferior: energy(inferior, inferior_rest),
     }
 }
