@@ -1,6 +1,6 @@
 //! Times 10,000,000 metering calls of the proved meter, an executable, against
 //! the same work with a plain meter, each in its own process. The proved meter
-//! is passed by value and returned, as document 01 has it, and has 896 bytes. So
+//! is passed by value and returned, as document 01 has it, and has 1,152 bytes. So
 //! is and has the plain one, once with a call for each volume and once inlined,
 //! where the compiler finds that it can write in place; and last the plain meter
 //! is changed in place.

@@ -39,38 +39,47 @@ pub fn hold_a_meter(words: &Words) -> bool {
 
 fn holds_a_stream(row: [u128; STREAM_WORDS]) -> bool {
     let [analysed, combustion, metering, z, hs, hi, rho, d, w, volume, energies @ ..] = row;
-    let floors = six(&Properties::FLOORS).map(u128::from);
-    let ceilings = six(&Properties::CEILINGS).map(u128::from);
-    let within = |conditions: Conditions| {
-        let six = [z, hs, hi, rho, d, w];
-        let between = |i: usize| (floors[i]..=ceilings[i]).contains(&six[i]);
-        (0..6).all(between)
-            && hi <= hs
-            && rho.abs_diff(by_air(d as u64, &conditions).into()) <= AIR_DISTANCE
-            && w == index(hs as u64, d as u64).into()
-    };
-    let [superior, superior_rest, inferior, inferior_rest] = energies;
-    let mega = u128::from(MEGAJOULE);
-    let [superior, inferior] = [
-        superior * mega + superior_rest,
-        inferior * mega + inferior_rest,
-    ];
-    // Every dm³ was metered at an Hs and an Hi between floor and ceiling.
-    let has =
-        |energy: u128, i: usize| (volume * floors[i]..=volume * ceilings[i]).contains(&energy);
+    let of_gas = |conditions| are_of_gas([z, hs, hi, rho, d, w], &conditions);
     match analysed {
         // Nothing is metered without an analysis.
         0 => row == [0; STREAM_WORDS],
         1 => {
-            permitted(combustion, metering).is_some_and(within)
+            permitted(combustion, metering).is_some_and(of_gas)
                 && volume <= GREATEST_TOTAL.into()
-                && superior_rest.max(inferior_rest) < mega
-                && has(superior, 1)
-                && has(inferior, 2)
-                && inferior <= superior
+                && are_of_volume(energies, volume)
         }
         _ => false,
     }
+}
+
+/// Whether properties can be those of a gas.
+fn are_of_gas(properties: [u128; 6], conditions: &Conditions) -> bool {
+    let [_, hs, hi, rho, d, w] = properties;
+    let floors = six(&Properties::FLOORS).map(u128::from);
+    let ceilings = six(&Properties::CEILINGS).map(u128::from);
+    let between = |i: usize| (floors[i]..=ceilings[i]).contains(&properties[i]);
+    (0..6).all(between)
+        && hi <= hs
+        && rho.abs_diff(by_air(d as u64, conditions).into()) <= AIR_DISTANCE
+        && w == index(hs as u64, d as u64).into()
+}
+
+/// Whether energies, each as whole MJ and rest, can be those of a volume: every
+/// dm³ was metered at an Hs and an Hi between floor and ceiling, Hi not above Hs.
+fn are_of_volume(energies: [u128; 4], volume: u128) -> bool {
+    let [superior, superior_rest, inferior, inferior_rest] = energies;
+    let (floors, ceilings) = (Properties::FLOORS, Properties::CEILINGS);
+    let mega = u128::from(MEGAJOULE);
+    let has = |floor: u64, ceiling: u64, energy| {
+        (volume * u128::from(floor)..=volume * u128::from(ceiling)).contains(&energy)
+    };
+    let superior = superior * mega + superior_rest;
+    let inferior = inferior * mega + inferior_rest;
+    superior_rest < mega
+        && inferior_rest < mega
+        && has(floors.hs, ceilings.hs, superior)
+        && has(floors.hi, ceilings.hi, inferior)
+        && inferior <= superior
 }
 
 fn permitted(combustion: u128, metering: u128) -> Option<Conditions> {
