@@ -510,8 +510,8 @@ static void put_energy(uint64_t *words, size_t mj, wide energy, uint64_t in_rest
 }
 
 /* Both energies of a stream, each with each: the least and the most that its volume can have, and a whole MJ between them, and one mJ and
- * one MJ more and less; so is the inferior one equal to the superior one, or one mJ above, also where that is a whole MJ more. Then the
- * same energies with a MJ in the rest. */
+ * one MJ more and less. So the inferior one also equals the superior one, and passes it by one mJ, within a MJ and from one to the next.
+ * Then the same energies with a MJ in the rest. */
 static void try_energies(size_t stream)
 {
     uint64_t *words = meter->words[stream];
