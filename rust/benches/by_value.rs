@@ -96,8 +96,8 @@ fn by_call(mut meter: Meter) -> Meter {
     meter
 }
 
-/// A line for each stream with its number, volume, MJ and rest of the superior
-/// and of the inferior energy, and both means.
+/// A line for each stream with its number, its volume, and of the superior and
+/// of the inferior energy MJ, rest and mean.
 fn readings(meter: &Meter) -> String {
     let mut text = String::new();
     for stream in 0..STREAMS {
@@ -110,8 +110,8 @@ fn readings(meter: &Meter) -> String {
         } = meter.totals(stream).expect("the stream exists");
         let mean = meter.mean(stream).expect("the volume is above 0");
         let mean_inferior = meter.mean_inferior(stream).expect("the volume is above 0");
-        text += &format!("{stream} {volume} {superior_mj} {superior_rest} ");
-        text += &format!("{inferior_mj} {inferior_rest} {mean} {mean_inferior}\n");
+        text += &format!("{stream} {volume} {superior_mj} {superior_rest} {mean} ");
+        text += &format!("{inferior_mj} {inferior_rest} {mean_inferior}\n");
     }
     text
 }

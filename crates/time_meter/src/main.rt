@@ -1,6 +1,5 @@
 // Makes 10,000,000 metering calls over all sixteen streams, and prints for each stream its number, its volume, and of each energy whole MJ,
-// rest in mJ and mean.
-// rust/benches/meter.rs runs it, makes the same calls on meters in Rust, and compares what is printed and the times.
+// rest in mJ and mean. rust/benches/by_value.rs runs it, makes the same calls on meters in Rust, and compares what is printed and the times.
 use meter::MeanAnswer;
 use meter::Meter;
 use meter::Register;
