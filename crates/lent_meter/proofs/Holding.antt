@@ -2,7 +2,7 @@
 use mathlib.Core.Path.{_≡_, refl, sym, ap, subst, _∙_}
 use mathlib.Core.Bool.{Bool, true, false, _&&_}
 use mathlib.Core.List.{List, [], _∷_, map}
-use Prim.Native.Nat.{ℕ, zero, suc, _+_, _<_}
+use Prim.Native.Nat.{ℕ, zero, suc, _+_, _-_, _<_}
 use native.Mathlib.Nat.{not-suc-le-zero, le-of-suc-le-suc}
 use native.Mathlib.Omega.{arith}
 use borrow.Author.Tests.{eqb-true, eqb-false}
@@ -16,7 +16,7 @@ use Rattle.meter.specs.declared.StreamTotals.{StreamTotals}
 use Rattle.meter.specs.declared.Stream.{Stream}
 use Rattle.meter.specs.State.{freshStream, SoundTotals, SoundGas, SoundAnalysis, SoundStream}
 use Rattle.meter.proofs.Kept.{fresh-stream-is-sound}
-use Rattle.lent_meter.specs.Words.{packedTotals, analysisWords, packedStream, gasIn, totalsIn}
+use Rattle.lent_meter.specs.Words.{rowLength, packedTotals, analysisWords, packedStream, gasIn, totalsIn}
 use Rattle.lent_meter.specs.Lent.{LentRow, EachLent, Lent}
 use Rattle.lent_meter.proofs.Outcomes.{lent-row}
 use Rattle.lent_meter.specs.Check.{Tells}
@@ -32,7 +32,7 @@ dropped i (suc n) l e = drop-cons l i 0 (omega arith) ∙ ap (λ (r : List ℕ).
 
 -- with no analysis every word is 0, and with one the first word is 1
 blank : (a : InForce) (t : StreamTotals) → SoundAnalysis a t → (getD (analysisWords a (packedTotals t)) 0 0 ≡ 1 → ⊥) →
-    analysisWords a (packedTotals t) ≡ replicate 14 0
+    analysisWords a (packedTotals t) ≡ replicate rowLength 0
 blank Nothing t h none = ap (analysisWords Nothing) (ap packedTotals h)
 blank (Known gas) t h none = elim (none refl) [ ]
 
@@ -46,16 +46,16 @@ parts Nothing t h sound one = let f : ⊥ = omega arith in elim f [ ]
 parts (Known gas) t h sound one = record { gas = record { pair = h .pair; properties = h .properties; air = h .air }; totals = sound }
 
 module _ (row : List ℕ) where
-  pub blank-holds : row ≡ replicate 14 0 → LentRow row
+  pub blank-holds : row ≡ replicate rowLength 0 → LentRow row
   blank-holds e = record { stream = freshStream; sound = fresh-stream-is-sound; holds = e }
 
   -- a row with 1 in its first word
-  analysed-holds : length row ≡ 14 → getD row 0 0 ≡ 1 → Parts row → LentRow row
+  analysed-holds : length row ≡ rowLength → getD row 0 0 ≡ 1 → Parts row → LentRow row
   analysed-holds long one p =
       record {
         stream = record { analysis = Known (gasIn row); totals = totalsIn row };
         sound = record { analysis = p .gas; totals = p .totals };
-        holds = dropped 0 14 row long ∙ ap (λ (w : ℕ). w ∷ elements 1 13 row) one;
+        holds = dropped 0 rowLength row long ∙ ap (λ (w : ℕ). w ∷ elements 1 (rowLength - 1) row) one;
       }
 
   lent-parts : getD row 0 0 ≡ 1 → LentRow row → Parts row
@@ -63,13 +63,13 @@ module _ (row : List ℕ) where
       let s = l .stream in
       subst Parts (sym (l .holds)) (parts (s .analysis) (s .totals) (l .sound .analysis) (l .sound .totals) (sym (ap (λ (r : List ℕ). getD r 0 0) (l .holds)) ∙ one))
 
-  lent-blank : (getD row 0 0 ≡ 1 → ⊥) → LentRow row → row ≡ replicate 14 0
+  lent-blank : (getD row 0 0 ≡ 1 → ⊥) → LentRow row → row ≡ replicate rowLength 0
   lent-blank none l =
       let s = l .stream in
       l .holds ∙ blank (s .analysis) (s .totals) (l .sound .analysis) (λ one. none (ap (λ (r : List ℕ). getD r 0 0) (l .holds) ∙ one))
 
   -- a row that is not 0 everywhere, from the tests of its parts
-  pub row-holds : length row ≡ 14 → (row ≡ replicate 14 0 → ⊥) → {gas totals : Bool} → Tells gas (SoundGas (gasIn row)) → Tells totals (SoundTotals (totalsIn row)) →
+  pub row-holds : length row ≡ rowLength → (row ≡ replicate rowLength 0 → ⊥) → {gas totals : Bool} → Tells gas (SoundGas (gasIn row)) → Tells totals (SoundTotals (totalsIn row)) →
       Tells (eqb (getD row 0 0) 1 && gas && totals) (LentRow row)
   row-holds long some {gas} {totals} g t =
       record {

@@ -4,14 +4,14 @@ use mathlib.Core.List.{List, []}
 use Prim.Native.Nat.{ℕ, _≤_, _<_}
 use native.Mathlib.Omega.{arith}
 use lib.ListN.{getD}
-use Rattle.records.specs.Order.{Outcome, firstOf, decided, mapped}
+use Rattle.records.specs.Order.{Outcome, decided, mapped}
 use Rattle.records.specs.Answers.{Returns}
 use Rattle.meter.specs.declared.Register.{Register}
 use Rattle.meter.specs.declared.StreamTotals.{StreamTotals}
 use Rattle.meter.specs.declared.Meter.{Meter}
 use Rattle.meter.specs.State.{lastStream, Sound, SoundTotals, streamAt}
 use Rattle.meter.specs.Conditions.{totalZero, zeroOrder}
-use Rattle.meter.specs.Calls.{meanIn, meanReading}
+use Rattle.meter.specs.Calls.{meanIn, meanOver, meanReading}
 use Rattle.meter.proofs.Orders.{above, not-above}
 use Rattle.lent_meter.specs.Words.{packed, totalsIn}
 use Rattle.lent_meter.specs.Lent.{Lent}
@@ -21,10 +21,6 @@ use Rattle.lent_meter.proofs.Rows.{totals-are}
 -- the totals that were read of a row
 pub read-sound : {words : List (List ℕ)} {k : ℕ} {t : StreamTotals} → Lent words → k ≤ lastStream → t ≡ totalsIn (getD words k []) → SoundTotals t
 read-sound {k = k} l low is = let r = lent-row k l low in rw (is ∙ totals-are (r .stream) (r .holds)) (r .sound .totals)
-
--- the mean of a register over the volume, or 18
-abbrev meanOver : Register → ℕ → Outcome ℕ
-meanOver e v = decided (firstOf (zeroOrder (totalZero v))) (meanIn e v)
 
 module _ (of : StreamTotals → Register) (m : Meter) (k : ℕ) where
   abbrev reading : Outcome ℕ

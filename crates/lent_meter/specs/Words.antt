@@ -11,6 +11,10 @@ use Rattle.meter.specs.declared.StreamTotals.{StreamTotals}
 use Rattle.meter.specs.declared.Stream.{Stream}
 use Rattle.meter.specs.declared.Meter.{Meter}
 
+-- words of a row
+abbrev pub rowLength : ℕ
+rowLength = 14
+
 -- totals: the volume in dm³, and the superior and the inferior energy, each as whole MJ and rest
 abbrev pub packedTotals : StreamTotals → List ℕ
 packedTotals t = t .volume ∷ t .superior .whole ∷ t .superior .rest ∷ t .inferior .whole ∷ t .inferior .rest ∷ []

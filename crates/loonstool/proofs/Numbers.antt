@@ -24,6 +24,5 @@ zero-says-accepted =
       analysis = λ m k bs. never (firstOf (analysisOrder k bs (streamAt m k))) _;
       metering = λ m k v. never (firstOf (meteringOrder k v (streamAt m k))) _;
       totals = λ m k. never (firstOf (totalsOrder k)) _;
-      mean = λ m k. never (firstOf (meanOrder k (streamAt m k))) _;
-      mean-inferior = λ m k. never (firstOf (meanOrder k (streamAt m k))) _;
+      mean = λ m k e. never (firstOf (meanOrder k (streamAt m k))) _;
     }

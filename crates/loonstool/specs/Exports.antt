@@ -7,8 +7,10 @@ use Rattle.records.specs.Order.{Outcome, refused}
 use Rattle.records.specs.Format.{Contents}
 use Rattle.records.specs.Calls.{readingOf, writingOf}
 use Rattle.properties.specs.Chain.{Six, propertiesOf}
+use Rattle.meter.specs.declared.Register.{Register}
 use Rattle.meter.specs.declared.Meter.{Meter}
-use Rattle.meter.specs.Calls.{analysisOf, meteringOf, totalsOf, meanOf, meanInferiorOf}
+use Rattle.meter.specs.State.{streamAt}
+use Rattle.meter.specs.Calls.{analysisOf, meteringOf, totalsOf, meanReading}
 
 module _ {A : Type 0} where
   -- 0 stands for no refusal
@@ -23,8 +25,8 @@ pub record ZeroSaysAccepted : Type 0 where
   pub analysis : (m : Meter) (k : ℕ) (bs : List ℕ) → NeverRefusedByZero (analysisOf m k bs)
   pub metering : (m : Meter) (k v : ℕ) → NeverRefusedByZero (meteringOf m k v)
   pub totals : (m : Meter) (k : ℕ) → NeverRefusedByZero (totalsOf m k)
-  pub mean : (m : Meter) (k : ℕ) → NeverRefusedByZero (meanOf m k)
-  pub mean-inferior : (m : Meter) (k : ℕ) → NeverRefusedByZero (meanInferiorOf m k)
+  -- the mean of either energy
+  pub mean : (m : Meter) (k : ℕ) (e : Register) → NeverRefusedByZero (meanReading k (streamAt m k) e)
 
 -- the properties in document 01's order
 abbrev pub inOrder : Six → List ℕ

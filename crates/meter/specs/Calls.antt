@@ -15,7 +15,7 @@ use Rattle.meter.specs.declared.Stream.{Stream}
 use Rattle.meter.specs.declared.Meter.{Meter}
 use Rattle.meter.specs.declared.StreamTotals.{StreamTotals}
 use Rattle.meter.specs.State.{streamAt, withStream, amountIn, perMJ}
-use Rattle.meter.specs.Conditions.{analysisOrder, meteringOrder, totalsOrder, meanOrder}
+use Rattle.meter.specs.Conditions.{totalZero, zeroOrder, analysisOrder, meteringOrder, totalsOrder, meanOrder}
 
 -- an accepted record as a gas in force
 abbrev pub gasOf : List ℕ → Gas
@@ -68,10 +68,15 @@ afterMetering m k v = otherwise m (meteringOf m k v)
 abbrev pub totalsOf : Meter → ℕ → Outcome StreamTotals
 totalsOf m k = decided (firstOf (totalsOrder k)) (streamAt m k .totals)
 
--- the reading of a mean, in J/m³: near(energy in mJ / volume in dm³)
+-- a mean, in J/m³: near(energy in mJ / volume in dm³)
 abbrev pub meanIn : Register → ℕ → ℕ
 meanIn e v = near (amountIn perMJ e) v
 
+-- the mean of an energy over a volume, or 18
+abbrev pub meanOver : Register → ℕ → Outcome ℕ
+meanOver e v = decided (firstOf (zeroOrder (totalZero v))) (meanIn e v)
+
+-- the reading of a mean, from an energy of the stream k
 abbrev pub meanReading : ℕ → Stream → Register → Outcome ℕ
 meanReading k s e = decided (firstOf (meanOrder k s)) (meanIn e (s .totals .volume))
 

@@ -34,10 +34,11 @@ perMJ = 1000000000
 abbrev pub nothingBooked : Register
 nothingBooked = record { whole = 0; rest = 0 }
 
--- no analysis, volume 0, both energies 0
+-- volume 0, both energies 0
 abbrev pub freshTotals : StreamTotals
 freshTotals = record { volume = 0; superior = nothingBooked; inferior = nothingBooked }
 
+-- no analysis
 abbrev pub freshStream : Stream
 freshStream = record { analysis = Nothing; totals = freshTotals }
 

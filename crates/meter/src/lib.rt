@@ -7,13 +7,13 @@ use properties::quantities::CalorificValue;
 use records::Verdict;
 ghost use mathlib.Core.Path.{_≡_};
 ghost use Prim.Native.Nat.{_+_, _*_, _^_, _≤_, _<_};
-ghost use Rattle.records.specs.Order.{firstOf, decided};
+ghost use Rattle.records.specs.Order.{firstOf};
 ghost use Rattle.records.specs.Answers.{Gives};
 ghost use Rattle.properties.specs.Quantities.{Bounded};
 ghost use Rattle.properties.specs.Answers.{numbers};
 ghost use Rattle.meter.specs.State.{mostVolume, mostTotal, freshMeter, SoundEnergy, SoundTotals, SoundStream, Sound};
-ghost use Rattle.meter.specs.Conditions.{pairDiffers, noAnalysis, totalZero, pairOrder, volumeOrder, zeroOrder};
-ghost use Rattle.meter.specs.Calls.{withGas, booked, added, metered, analysisOf, meteringOf, totalsOf, meanIn, meanOf, meanInferiorOf};
+ghost use Rattle.meter.specs.Conditions.{pairDiffers, noAnalysis, pairOrder, volumeOrder};
+ghost use Rattle.meter.specs.Calls.{withGas, booked, added, metered, analysisOf, meteringOf, totalsOf, meanOver, meanOf, meanInferiorOf};
 ghost use Rattle.meter.specs.Answers.{totalsMeaning, meanMeaning};
 
 // The last stream.
@@ -74,7 +74,7 @@ pub enum TotalsAnswer {
     Refused(u8),
 }
 
-// The mean, or document 01's number.
+// A mean, or document 01's number.
 pub enum MeanAnswer {
     Accepted(CalorificValue),
     Refused(u8),
@@ -84,12 +84,13 @@ pub enum MeanAnswer {
 pub fn fresh() -> Meter
     ensures { λ r. ⌜ r ≡ freshMeter ⌝ }
 {
+    let nothing = Register { whole: 0, rest: 0 };
     let stream = Stream {
         analysis: InForce::Nothing,
         totals: StreamTotals {
             volume: 0,
-            superior: Register { whole: 0, rest: 0 },
-            inferior: Register { whole: 0, rest: 0 },
+            superior: nothing,
+            inferior: nothing,
         },
     };
     Meter {
@@ -269,7 +270,7 @@ pub fn totals(meter: Meter, stream: usize) -> TotalsAnswer
 // The mean calorific value of an energy over a volume, in J/m³, or 18.
 pub fn mean_over(energy: Register, volume: u64) -> MeanAnswer
     requires { ⌜ SoundEnergy volume energy × (volume ≤ mostTotal) ⌝ }
-    ensures { λ r. ⌜ meanMeaning r ≡ decided (firstOf (zeroOrder (totalZero volume))) (meanIn energy volume) ⌝ }
+    ensures { λ r. ⌜ meanMeaning r ≡ meanOver energy volume ⌝ }
 {
     if volume == 0 {
         return MeanAnswer::Refused(18);

@@ -1,4 +1,5 @@
--- The cases K1 to K10 of document 01 as one list, and one test over the definitions that computes to true over the whole list.
+-- The cases K1 to K10 of document 01, and a computed one of the inferior energy, as one list, and one test over the definitions that
+-- computes to true over the whole list.
 use mathlib.Core.Path.{_≡_}
 use mathlib.Core.Bool.{Bool, true, _&&_}
 use mathlib.Core.List.{List, [], _∷_}
@@ -73,7 +74,7 @@ cases =
     ∷ (on 15 totals, accepted (totalsAre after1000))
     ∷ (on 15 (mean inferior), accepted (meanIs 34015574))
     ∷ (on 16 (mean inferior), refused 13)
-    ∷ [])  -- computed: K2's inferior energy and its mean
+    ∷ [])  -- computed: K2's inferior energy and its mean, with 18 before the volume and 13 past the last stream
     ∷ rule (record { line = 23; place = 0; superior = 2700200; inferior = 2524100; twice = 352200; atoms = 8; water = 44016; product = 352128 })  -- K10
     ∷ [])
 

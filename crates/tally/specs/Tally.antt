@@ -151,7 +151,7 @@ orderOf k (metering v) s = (13, aboveLast k) ∷ (15, largeVolume v) ∷ (16, no
 orderOf k totals s = (13, aboveLast k) ∷ []
 orderOf k (mean e) s = (13, aboveLast k) ∷ (18, noVolume (s .volume)) ∷ []
 
--- an accepted volume v: V grows by v, one E by v × Hs and its X by v × the unrounded Hs, the other E and X by v × Hi and v × the
+-- an accepted volume v: V grows by v, the superior E by v × Hs and its X by v × the unrounded Hs, the inferior ones by v × Hi and v × the
 -- unrounded Hi, all of the record in force; with no record, 16 has refused it
 abbrev pub meteredBy : Option (List ℕ) → ℕ → StreamTally → StreamTally
 meteredBy none v s = s

@@ -4,20 +4,21 @@ use mathlib.Core.List.{List}
 use Prim.Native.Nat.{ℕ}
 use borrow.Author.Needs.{needs}
 use lib.ListN.{length, replicate}
+use Rattle.lent_meter.specs.Words.{rowLength}
 use Rattle.lent_meter.proofs.Telling.{tells-true, untold}
 use Rattle.lent_meter.proofs.Holding.{blank-holds, row-holds}
 use Rattle.lent_meter.proofs.held.holds_stream.Statement.{statement}
 use Rattle.lent_meter.proofs.held.holds_stream.Tie as tie
 
--- a row has 14 words
+-- a row's words
 module _ (c : tie.After-all-zero) where
   abbrev row : List ℕ
   row = c .before .before .args .row .now
 
-  long : length row ≡ 14
+  long : length row ≡ rowLength
   long = c .before .all-zero-arg .given .0
 
-  zeros : _≡_ {A = List ℕ} (replicate (length row) 0) (replicate 14 0)
+  zeros : _≡_ {A = List ℕ} (replicate (length row) 0) (replicate rowLength 0)
   zeros = ap (λ (n : ℕ). replicate n 0) long
 
 returns : tie.Need-returns
