@@ -19,10 +19,11 @@ use Rattle.meter.specs.declared.InForce.{InForce}
 use Rattle.meter.specs.declared.InForce.the-variants.{Nothing, Known}
 use Rattle.meter.specs.declared.StreamTotals.{StreamTotals}
 use Rattle.meter.specs.declared.Stream.{Stream}
-use Rattle.meter.specs.State.{mostVolume, mostTotal, SoundAnalysis, SoundStream}
+use Rattle.meter.specs.State.{mostVolume, mostTotal, SoundTotals, SoundAnalysis, SoundStream}
 use Rattle.meter.specs.Conditions.{pairDiffers, noAnalysis, pairOrder, streamAnalysisOrder, streamMeteringOrder}
 use Rattle.meter.specs.Calls.{withVolume, added, analysed, metered}
 use Rattle.lent_meter.specs.Words.{packedTotals, gasWords, analysisWords, packedStream, sixIn, totalsIn, withGasWords, withTotalsWords}
+use Rattle.lent_meter.specs.Lent.{LentRow}
 
 -- 14, from the words of a row
 abbrev pub wordsDiffer : List ℕ → ℕ → ℕ → Bool
@@ -71,6 +72,10 @@ module _ {row : List ℕ} (s : Stream) (holds : row ≡ packedStream s) where
   row-metered some v {t} {u} {p} before six after =
       (λ i. withTotalsWords (holds i) ((after ∙ ap (λ (x : StreamTotals). added x p v) (before ∙ totals-are)) i))
       ∙ put-totals (s .totals) (s .analysis) some v (six ∙ ap sixIn holds)
+
+-- the totals that were read of a row
+pub read-sound : {row : List ℕ} {t : StreamTotals} → LentRow row → t ≡ totalsIn row → SoundTotals t
+read-sound l is = rw (is ∙ totals-are (l .stream) (l .holds)) (l .sound .totals)
 
 -- the number of a metering, 13 apart, from the tests of the code, each where those before it did not hold
 module _ (s : Stream) (v : ℕ) where

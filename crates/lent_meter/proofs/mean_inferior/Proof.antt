@@ -1,7 +1,9 @@
 -- 13, or the inferior energy over the volume.
 use borrow.Author.Needs.{needs}
 use Rattle.meter.specs.declared.StreamTotals.{StreamTotals}
-use Rattle.lent_meter.proofs.Means.{read-sound, mean-refused, mean-given}
+use Rattle.lent_meter.proofs.Outcomes.{lent-row}
+use Rattle.lent_meter.proofs.Rows.{read-sound}
+use Rattle.lent_meter.proofs.Means.{mean-refused, mean-given}
 use Rattle.lent_meter.proofs.mean_inferior.Statement.{statement}
 use Rattle.lent_meter.proofs.mean_inferior.Tie as tie
 
@@ -11,7 +13,7 @@ returns c m sound holds = mean-refused (λ (t : StreamTotals). t .inferior) m (c
 mean-over-requires : tie.Need-mean-over-requires
 mean-over-requires c κs =
     let e = c .before .before in
-    let t = read-sound (e .before .pre) (e .if1 .left) (c .totals-in .ensures) in
+    let t = read-sound (lent-row (e .before .args .stream) (e .before .pre) (e .if1 .left)) (c .totals-in .ensures) in
     (t .inferior, t .volume)
 
 returns-2 : tie.Need-returns-2

@@ -9,7 +9,7 @@ use Rattle.meter.specs.State.{SoundTotals}
 use Rattle.meter.specs.Calls.{metered}
 use Rattle.lent_meter.specs.Words.{packedStream}
 use Rattle.lent_meter.proofs.Outcomes.{number-refuses, number-accepts}
-use Rattle.lent_meter.proofs.Rows.{none-is, totals-are, six-bounded, fifteen, sixteen, seventeen, clear, row-metered}
+use Rattle.lent_meter.proofs.Rows.{none-is, totals-are, read-sound, six-bounded, fifteen, sixteen, seventeen, clear, row-metered}
 use Rattle.lent_meter.proofs.metering_row.Statement.{statement}
 use Rattle.lent_meter.proofs.metering_row.Tie as tie
 
@@ -18,14 +18,11 @@ module _ (c : tie.After-totals-in) where
   abbrev start : tie.Start
   start = c .before .before .before .before .before
 
-  read : (s : Stream) → start .args .row .now ≡ packedStream s → c .totals-in .result ≡ s .totals
-  read s holds = c .totals-in .ensures ∙ totals-are s holds
-
   volume-is : (s : Stream) → start .args .row .now ≡ packedStream s → c .totals-in .result .volume ≡ s .totals .volume
-  volume-is s holds = ap (λ (t : StreamTotals). t .volume) (read s holds)
+  volume-is s holds = ap (λ (t : StreamTotals). t .volume) (c .totals-in .ensures ∙ totals-are s holds)
 
   sound : SoundTotals (c .totals-in .result)
-  sound = let l = start .pre in rw (read (l .stream) (l .holds)) (l .sound .totals)
+  sound = read-sound (start .pre) (c .totals-in .ensures)
 
 returns : tie.Need-returns
 returns c =
