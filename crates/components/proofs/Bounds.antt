@@ -10,9 +10,9 @@ use lib.IntN.{natAbs}
 use borrow.Author.Tests.{le-ltb}
 use Rattle.components.specs.Table.{componentTable, entryOf, molarMass, summation, superior, inferior, Heat, Unsigned}
 use Rattle.components.specs.Composition.{sumOf}
-use Rattle.components.specs.Bounds.{MethaneBounds, InferiorBelow}
+use Rattle.components.specs.Bounds.{heatByMass, MethaneBounds, InferiorBelow, HeatByMass}
 use Rattle.components.proofs.Every.{at, unless}
-use Rattle.components.proofs.Entries.{largest, heaviest, greatest-s, entry-below, mass-below, summation-below, heats-ordered}
+use Rattle.components.proofs.Entries.{largest, heaviest, greatest-s, entry-below, mass-below, summation-below, heats-ordered, entry-by-mass}
 use Rattle.components.proofs.SumLaws.{sizes, sum-is-sizes, sum-within-sizes, sizes-below, share-low, share-high}
 
 -- methane's numbers: h from 802.60 to 892.97 kJ/mol, molar mass 16.043 kg/kmol, s up to 0.0490
@@ -62,4 +62,8 @@ pub inferior-below : InferiorBelow
 inferior-below t h ls xs =
     let high = size-is (superior t) (inr (omega arith, omega arith)) ls xs in
     let low = size-is (inferior t) (inr (omega arith, omega arith)) ls xs in
-    omega (arith, high, low, sizes-below (inferior t) (superior t) (heats-ordered t h) ls xs)
+    omega (arith, high, low, sizes-below 1 (inferior t) (superior t) (λ l. omega (arith, heats-ordered t h l)) ls xs)
+
+pub heat-by-mass : HeatByMass
+heat-by-mass c h ls xs =
+    omega (arith, size-is c (inr h) ls xs, size-is molarMass (inl refl) ls xs, sizes-below heatByMass c molarMass (λ l. entry-by-mass l c h) ls xs)

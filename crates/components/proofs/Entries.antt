@@ -2,7 +2,7 @@
 use mathlib.Core.List.{List, []}
 use mathlib.Core.Logic.{⊎-elim}
 use mathlib.Core.Bool.{Bool, _||_}
-use Prim.Native.Nat.{ℕ, _-_, _≤_, _<_}
+use Prim.Native.Nat.{ℕ, _-_, _*_, _≤_, _<_}
 use native.Mathlib.Nat.{lt-of-le-of-lt}
 use native.Mathlib.Omega.{arith}
 use lib.Dec.{T, leb, ltb, leb→le}
@@ -14,6 +14,7 @@ use mir.Syntax.{w32}
 use mir.Val.{SFits}
 use Rattle.rounding.proofs.SignedWords.{mag≤}
 use Rattle.components.specs.Table.{componentTable, entryOf, molarMass, summation, superior, inferior, Heat, Unsigned}
+use Rattle.components.specs.Bounds.{heatByMass}
 use Rattle.components.specs.Tests.{all}
 use Rattle.components.proofs.Every.{at, every, all-at, unless}
 
@@ -61,6 +62,17 @@ pub heats-ordered : (t : ℕ) → t < 4 → (l : ℕ) → natAbs (entryOf l (inf
 unfolding ordered componentTable
 heats-ordered t h l =
     leb→le _ _ (at (ordered (getD componentTable (l - 1) [])) 4 (row-at (λ (row : List ℤ). every (ordered row) 4) tt tt l) t h)
+
+-- no h is above 15 times the m of its line
+by-mass : List ℤ → ℕ → Bool
+by-mass row c = ltb c 4 || leb (natAbs (getD row c (pos 0))) (heatByMass * natAbs (getD row molarMass (pos 0)))
+
+pub entry-by-mass : (l c : ℕ) → Heat c → natAbs (entryOf l c) ≤ heatByMass * natAbs (entryOf l molarMass)
+unfolding by-mass componentTable
+entry-by-mass l c (lo, hi) =
+    leb→le _ _
+    (unless (ltb c 4) _ (le-ltb c 4 lo)
+    (at (by-mass (getD componentTable (l - 1) [])) 12 (row-at (λ (row : List ℤ). every (by-mass row) 12) tt tt l) c hi))
 
 pub entry-fits : (l c : ℕ) → SFits w32 (entryOf l c)
 entry-fits l c = record { sfits = lt-of-le-of-lt (mag≤ (entryOf l c)) (omega (arith, entry-below l c)) }

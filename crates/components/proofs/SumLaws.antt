@@ -55,12 +55,12 @@ sum-within-sizes c (l ∷ ls) [] = zero-le
 sum-within-sizes c (l ∷ ls) (x ∷ xs) =
     omega (arith, sum-within-sizes c ls xs, natAbs-add (pos x *ℤ entryOf l c) (sumOf c ls xs), natAbs-mul x (entryOf l c))
 
--- a column none of whose numbers has a greater size than that of the same line in another column
-pub sizes-below : (c d : ℕ) → ((l : ℕ) → natAbs (entryOf l c) ≤ natAbs (entryOf l d)) → (ls xs : List ℕ) → sizes c ls xs ≤ sizes d ls xs
+-- a column none of whose numbers has a greater size than n times that of the same line in another column
+pub sizes-below : (n c d : ℕ) → ((l : ℕ) → natAbs (entryOf l c) ≤ n * natAbs (entryOf l d)) → (ls xs : List ℕ) → sizes c ls xs ≤ n * sizes d ls xs
 unfolding sizes
-sizes-below c d h [] xs = zero-le
-sizes-below c d h (l ∷ ls) [] = zero-le
-sizes-below c d h (l ∷ ls) (x ∷ xs) = omega (arith, sizes-below c d h ls xs, mul-le-mul-left x (h l))
+sizes-below n c d h [] xs = zero-le
+sizes-below n c d h (l ∷ ls) [] = zero-le
+sizes-below n c d h (l ∷ ls) (x ∷ xs) = omega (arith, sizes-below n c d h ls xs, mul-le-mul-left x (h l))
 
 -- Line k has a share of its own: its number has at most size a, every other at most a + e.
 module _ (c k a e : ℕ) (own : natAbs (entryOf k c) ≤ a) (other : (l : ℕ) → natAbs (entryOf l c) ≤ a + e) where

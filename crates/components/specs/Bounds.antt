@@ -1,7 +1,7 @@
 -- Bounds of the sums of a composition with the least fraction of methane or more, whatever its other lines are; and the order of Hm,
--- inferior and superior, of any composition.
+-- inferior and superior, and the most that Hm is beside M, of any composition.
 use mathlib.Core.List.{List}
-use Prim.Native.Nat.{ℕ, _≤_, _<_}
+use Prim.Native.Nat.{ℕ, _*_, _≤_, _<_}
 use lib.IntN.{natAbs}
 use Rattle.components.specs.Table.{molarMass, summation, superior, inferior, Heat}
 use Rattle.components.specs.Composition.{Composition, leastMethane, fractionFor, sumOf}
@@ -20,6 +20,10 @@ massLow = 80000000000
 abbrev pub massHigh : ℕ
 massHigh = 800000000000
 
+-- Hm beside M, of any composition, unit 10^6 of 10 J/kg: hydrogen alone comes to some 14.2
+abbrev pub heatByMass : ℕ
+heatByMass = 15
+
 -- S, unit 10^-10
 abbrev pub summationHigh : ℕ
 summationHigh = 5250000000
@@ -37,3 +41,7 @@ MethaneBounds = (ls xs : List ℕ) → Composition ls xs → leastMethane ≤ fr
 -- Hm inferior is not above Hm superior at the same temperature, the t-th
 abbrev pub InferiorBelow : Type 0
 InferiorBelow = (t : ℕ) → t < 4 → (ls xs : List ℕ) → natAbs (sumOf (inferior t) ls xs) ≤ natAbs (sumOf (superior t) ls xs)
+
+-- Hm, superior or inferior, is at most 15 × M
+abbrev pub HeatByMass : Type 0
+HeatByMass = (c : ℕ) → Heat c → (ls xs : List ℕ) → natAbs (sumOf c ls xs) ≤ heatByMass * natAbs (sumOf molarMass ls xs)

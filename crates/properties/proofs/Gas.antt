@@ -1,8 +1,9 @@
 -- The gas of every accepted record: its sums and steps within their bounds, its properties between their floors and ceilings and within their
 -- distances.
-use mathlib.Core.Path.{_≡_, refl, ap}
+use mathlib.Core.Path.{_≡_, refl, sym, ap, _∙_}
+use mathlib.Core.List.{List}
 use mathlib.Core.Logic.{inl, inr}
-use Prim.Native.Nat.{ℕ, _*_, _^_, _≤_}
+use Prim.Native.Nat.{ℕ, _*_, _^_, _≤_, _<_}
 use native.Mathlib.Nat.{mul-le-mul, mul-le-mul-right}
 use native.Mathlib.Omega.{arith}
 use lib.IntN.{pos, natAbs}
@@ -12,12 +13,13 @@ use Rattle.rounding.proofs.NearLaws.{near-half, near-monotone, near-z-half}
 use Rattle.rounding.proofs.FractionLaws.{within-wider, within-one}
 use Rattle.components.specs.Table.{superior, inferior, Heat, Unsigned}
 use Rattle.components.specs.Composition.{sumOf, overLines}
-use Rattle.components.specs.Bounds.{heatLow, heatHigh, massLow, massHigh, summationHigh, Bounds}
+use Rattle.components.specs.Bounds.{heatLow, heatHigh, massLow, massHigh, heatByMass, summationHigh, Bounds}
 use Rattle.components.proofs.SumLaws.{sum-is-sizes}
 use Rattle.components.proofs.AllLines.{sums-run-over-all-lines}
-use Rattle.components.proofs.Bounds.{methane-bounds, inferior-below}
-use Rattle.records.specs.Order.{mapped}
+use Rattle.components.proofs.Bounds.{methane-bounds, inferior-below, heat-by-mass}
+use Rattle.records.specs.Order.{accepted, mapped}
 use Rattle.records.specs.Format.{Contents}
+use Rattle.records.specs.Calls.{readingOf}
 use Rattle.records.specs.Accepted.{Acceptable}
 use Rattle.records.proofs.Accepted.{accepted-is-acceptable}
 use Rattle.properties.specs.Chain.{combustionPlace, T, D, HmSuperior, HmInferior, M, S, S9, Z, Hs, Hi, rho, A, G, d, r, W, idealCalorific, idealDensity, real, wobbe, rootOf, sixOf}
@@ -25,11 +27,12 @@ use Rattle.properties.specs.Unrounded as unrounded
 use Rattle.properties.specs.Quantities.{calorificBound, densityBound, relativeBound, wobbeBound, Bounded}
 use Rattle.properties.specs.Bounds.{divisorLow, divisorHigh, airLow, airHigh, compressionLow, calorificLow, idealCalorificHigh, calorificHigh, densityLow, relativeLow, idealRelativeHigh, idealHigh, wobbeLow, Floored, Proper, DensityByAir}
 use Rattle.properties.specs.Distances.{Indexed, Distances}
+use Rattle.properties.specs.PerKilogram.{perKilogram, unroundedPerKilogram, massBasisOf, massDistance, MassShown, AlikeButMetering, MeteringDoesNotMatter}
 use Rattle.properties.specs.Accepted.{Amounts, Squares, EveryAcceptedRecord}
 use Rattle.properties.proofs.Approximations.{z-low, z-within, real-within}
 use Rattle.properties.proofs.Index.{indexed}
 use Rattle.properties.proofs.Air.{by-mass, by-air}
-use Rattle.properties.proofs.StepBounds.{tenth-high, compression-high, divisor-low, temperature-high, air-low, air-high, air-density-high, metering-place, combustion-place, calorific-near, ideal-calorific-high, ideal-calorific-low, density-near, ideal-density-high, ideal-density-low, relative-near, ideal-relative-high, ideal-relative-low, real-high, real-low, root-of, root-low, wobbe-near, wobbe-high, wobbe-low}
+use Rattle.properties.proofs.StepBounds.{tenth-high, compression-high, divisor-low, temperature-high, air-low, air-high, air-density-high, metering-place, combustion-place, calorific-near, ideal-calorific-high, ideal-calorific-low, density-near, ideal-density-high, ideal-density-low, relative-near, ideal-relative-high, ideal-relative-low, real-high, real-low, root-of, root-low, wobbe-near, wobbe-high, wobbe-low, per-kilogram-high}
 
 heats : (c : ℕ) → Heat (superior (combustionPlace c)) × Heat (inferior (combustionPlace c))
 heats c = let h = combustion-place c in ((omega arith, omega arith), (omega arith, omega arith))
@@ -251,6 +254,34 @@ module _ (k : Contents) (a : Acceptable k) where
   pub distances : Distances k (sixOf k)
   distances = record { Z = Z-within; Hs = Hs-within; Hi = Hi-within; rho = rho-within; d = d-within; W = W-within }
 
+  -- the values per kilogram
+  pub mass-pos : 0 < M k
+  mass-pos = omega (arith, mass-low)
+
+  pub superior-by-mass : HmSuperior k ≤ heatByMass * M k
+  unfolding HmSuperior M
+  superior-by-mass = rw (over-entries _, over-entries _) (heat-by-mass _ (heats (k .combustion) .0) (k .lines) (k .fractions))
+
+  pub inferior-by-mass : HmInferior k ≤ heatByMass * M k
+  unfolding HmInferior M
+  inferior-by-mass = rw (over-entries _, over-entries _) (heat-by-mass _ (heats (k .combustion) .1) (k .lines) (k .fractions))
+
+  mass-within : (Hm : ℕ) → Within massDistance (perKilogram Hm (M k)) (unroundedPerKilogram (whole Hm) (unrounded.M k))
+  mass-within Hm =
+      let h = near-half (Hm * 1000000) (M k) mass-pos in
+      record { proper = (omega (arith, mass-pos), omega arith); below = omega (arith, h .below); above = omega (arith, h .above) }
+
+  mass-shown : (bs : List ℕ) → readingOf bs ≡ accepted k → MassShown bs k (massBasisOf k)
+  mass-shown bs e =
+      record {
+        answer = ap (mapped massBasisOf) e;
+        superior-bounded = per-kilogram-high mass-pos superior-by-mass;
+        inferior-bounded = per-kilogram-high mass-pos inferior-by-mass;
+        order = near-monotone _ _ (M k) mass-pos (mul-le-mul-right 1000000 heats-ordered);
+        superior-within = mass-within (HmSuperior k);
+        inferior-within = mass-within (HmInferior k);
+      }
+
   greatest : Root (r k) (d k * 10 ^ 10)
   unfolding r
   greatest = root-of (d k) d-low d-high
@@ -266,4 +297,13 @@ every-accepted-record bs k e =
       proper = proper k a;
       air = density-by-air k a;
       within = distances k a;
+      per-kilogram = mass-shown k a bs e;
     }
+
+-- a value per kilogram is made of the combustion temperature, the lines and the fractions
+same-masses : {k l : Contents} → AlikeButMetering k l → massBasisOf k ≡ massBasisOf l
+unfolding HmSuperior HmInferior M
+same-masses h = rw (h .combustion, h .lines, h .fractions)
+
+pub metering-does-not-matter : MeteringDoesNotMatter
+metering-does-not-matter bs cs k l eb ec h = ap (mapped massBasisOf) eb ∙ ap accepted (same-masses h) ∙ sym (ap (mapped massBasisOf) ec)

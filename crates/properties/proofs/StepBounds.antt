@@ -11,10 +11,11 @@ use Rattle.rounding.specs.Root.{Root}
 use Rattle.rounding.specs.Fraction.{Within, _over_, half}
 use Rattle.rounding.proofs.NearLaws.{near-half, near-z-half, at-most, at-least}
 use Rattle.rounding.proofs.RootLaws.{root-is, root-greatest, below-of-squares}
-use Rattle.components.specs.Bounds.{heatLow, heatHigh, massLow, massHigh, summationHigh}
+use Rattle.components.specs.Bounds.{heatLow, heatHigh, massLow, massHigh, heatByMass, summationHigh}
 use Rattle.properties.specs.Bounds.{divisorLow, divisorHigh, airLow, airHigh, compressionLow, calorificLow, idealCalorificHigh, calorificHigh, densityLow, relativeLow, idealRelativeHigh, idealHigh, rootLow, wobbeLow, airDensity, airDensityHigh, byAir}
-use Rattle.properties.specs.Quantities.{relativeBound, wobbeBound}
+use Rattle.properties.specs.Quantities.{relativeBound, wobbeBound, massCalorificBound}
 use Rattle.properties.specs.Chain.{forMetering, temperature, divisor, meteringPlace, combustionPlace, airFactor, tenth, idealCalorific, idealDensity, idealRelative, real, rootOf, wobbe}
+use Rattle.properties.specs.PerKilogram.{perKilogram}
 
 -- what holds of three numbers holds of the one chosen
 pub chosen : (P : ℕ → Type 0) {x y z : ℕ} → P x → P y → P z → (m : ℕ) → P (forMetering x y z m)
@@ -139,3 +140,7 @@ module _ (d : ℕ) (d-low : relativeLow ≤ d) (d-high : d ≤ relativeBound) wh
 
   pub wobbe-low : (Hs : ℕ) → calorificLow ≤ Hs → wobbeLow ≤ wobbe Hs (rootOf d)
   wobbe-low Hs h = at-least (wobbe-near Hs) (omega (arith, root-high))
+
+-- a value per kilogram
+pub per-kilogram-high : {Hm M : ℕ} → 0 < M → Hm ≤ heatByMass * M → perKilogram Hm M ≤ massCalorificBound
+per-kilogram-high {Hm} {M} p h = at-most (near-half (Hm * 1000000) M p) (omega arith)

@@ -11,6 +11,7 @@ use Rattle.records.specs.Calls.{readingOf}
 use Rattle.properties.specs.Chain.{combustionPlace, sum, HmSuperior, HmInferior, M, S, S9, d, r, sixOf, propertiesOf}
 use Rattle.properties.specs.Bounds.{Proper, DensityByAir}
 use Rattle.properties.specs.Distances.{Distances}
+use Rattle.properties.specs.PerKilogram.{massBasisOf, MassShown}
 
 -- Hm and M are the sums themselves, since none is below 0
 pub record Amounts (k : Contents) : Type 0 where
@@ -26,7 +27,7 @@ pub record Squares (k : Contents) : Type 0 where
 
 -- what is shown of a record that reads as k: the call answers its properties, from its sums; steps 2 and 6 mean what they say, with r
 -- the greatest whole number with r² ≤ d × 10^10; none passes its ceiling or is below its floor, rho is d times the density of air, and
--- each is within its distance
+-- each is within its distance; and the same of the values per kilogram
 pub record Shown (bs : List ℕ) (k : Contents) : Type 0 where
   pub answer : propertiesOf bs ≡ accepted (sixOf k)
   pub amounts : Amounts k
@@ -35,6 +36,7 @@ pub record Shown (bs : List ℕ) (k : Contents) : Type 0 where
   pub proper : Proper (sixOf k)
   pub air : DensityByAir (k .metering) (sixOf k)
   pub within : Distances k (sixOf k)
+  pub per-kilogram : MassShown bs k (massBasisOf k)
 
 abbrev pub EveryAcceptedRecord : Type 0
 EveryAcceptedRecord = (bs : List ℕ) (k : Contents) → readingOf bs ≡ accepted k → Shown bs k

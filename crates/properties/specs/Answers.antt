@@ -1,9 +1,13 @@
--- The answers of the call on a record: document 01's number, or the six properties, for each case.
+-- The answers of the calls on a record: document 01's number, or the six properties or the two values per kilogram, for each case.
 use Rattle.records.specs.Order.{Outcome, refused, accepted}
 use Rattle.properties.specs.declared.Properties.{Properties}
 use Rattle.properties.specs.declared.Answer.{Answer}
 use Rattle.properties.specs.declared.Answer.the-variants.{Accepted, Refused}
+use Rattle.properties.specs.declared.PerKilogram.{PerKilogram}
+use Rattle.properties.specs.declared.MassAnswer.{MassAnswer}
+use Rattle.properties.specs.declared.MassAnswer.the-variants as mass
 use Rattle.properties.specs.Chain.{Six}
+use Rattle.properties.specs.PerKilogram.{MassBasis}
 
 -- the numbers of the properties
 abbrev pub numbers : Properties → Six
@@ -33,3 +37,12 @@ quantities p =
 abbrev pub meaning : Answer → Outcome Six
 meaning (Accepted p) = accepted (numbers p)
 meaning (Refused n) = refused n
+
+-- the numbers of the values per kilogram
+abbrev pub massNumbers : PerKilogram → MassBasis
+massNumbers v = record { superior = v .superior .value; inferior = v .inferior .value }
+
+-- document 01's number, or the values per kilogram, of each case of an answer
+abbrev pub massMeaning : MassAnswer → Outcome MassBasis
+massMeaning (mass.Accepted v) = accepted (massNumbers v)
+massMeaning (mass.Refused n) = refused n

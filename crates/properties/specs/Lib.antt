@@ -3,6 +3,7 @@ pub mod Chain
 pub mod Unrounded
 pub mod Quantities
 pub mod Distances
+pub mod PerKilogram
 pub mod Accepted
 pub mod Answers
 pub mod Cases

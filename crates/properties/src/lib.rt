@@ -1,11 +1,12 @@
-// The six properties of a gas from its analysis record, by document 01. Every list of bytes gets its properties, or the one number
-// that reading it gives.
+// The six properties of a gas from its analysis record, by document 01, and its calorific values per kilogram, by request W-202 of document
+// 02. Every list of bytes gets its answer, or the one number that reading it gives.
 ghost use mathlib.Core.Path.{_≡_};
 ghost use Rattle.records.specs.Order.{firstOf};
 ghost use Rattle.records.specs.Format.{contentsIn};
 ghost use Rattle.records.specs.Conditions.{recordOrder};
 ghost use Rattle.properties.specs.Chain.{sixOf, propertiesOf};
-ghost use Rattle.properties.specs.Answers.{numbers, meaning};
+ghost use Rattle.properties.specs.PerKilogram.{massBasisOf, perKilogramOf};
+ghost use Rattle.properties.specs.Answers.{numbers, meaning, massNumbers, massMeaning};
 
 pub mod quantities;
 pub mod steps;
@@ -14,6 +15,7 @@ mod sums;
 use quantities::CalorificValue;
 use quantities::CompressionFactor;
 use quantities::Density;
+use quantities::MassCalorificValue;
 use quantities::RelativeDensity;
 use quantities::WobbeIndex;
 
@@ -66,4 +68,38 @@ pub fn properties_of(bytes: &[u8]) -> Answer
         return Answer::Refused(refusal);
     }
     Answer::Accepted(calculate(bytes))
+}
+
+// The calorific values per kilogram.
+pub struct PerKilogram {
+    pub superior: MassCalorificValue,
+    pub inferior: MassCalorificValue,
+}
+
+// The values per kilogram, or document 01's number.
+pub enum MassAnswer {
+    Accepted(PerKilogram),
+    Refused(u8),
+}
+
+// The values per kilogram of an accepted record.
+fn calculate_per_kilogram(bytes: &[u8]) -> PerKilogram
+    requires { ⌜ firstOf (recordOrder (now bytes)) ≡ 0 ⌝ }
+    ensures { λ r. ⌜ massNumbers r ≡ massBasisOf (contentsIn (now (bytes .entry))) ⌝ }
+{
+    let sums = sums::sums_of(bytes);
+    let superior = steps::per_kilogram(sums.superior, sums.mass);
+    let inferior = steps::per_kilogram(sums.inferior, sums.mass);
+    PerKilogram { superior, inferior }
+}
+
+// The values per kilogram of a record.
+pub fn per_kilogram_of(bytes: &[u8]) -> MassAnswer
+    ensures { λ r. ⌜ massMeaning r ≡ perKilogramOf (now (bytes .entry)) ⌝ }
+{
+    let refusal = records::refusal(bytes);
+    if refusal != 0 {
+        return MassAnswer::Refused(refusal);
+    }
+    MassAnswer::Accepted(calculate_per_kilogram(bytes))
 }

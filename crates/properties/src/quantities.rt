@@ -1,8 +1,8 @@
-// The properties as quantities. SCALE is how many of the quantity's unit make 1 of the standard's, BOUND the ceiling that no value
+// The properties and the calorific value per kilogram as quantities. SCALE is how many of the quantity's unit make 1 of the standard's, BOUND the ceiling that no value
 // passes, FLOOR what no property of an accepted record is below. Every ceiling is below 2^32, so a value is kept in 32 bits.
 ghost use mathlib.Core.Path.{_≡_};
 ghost use Prim.Native.Nat.{_≤_};
-ghost use Rattle.properties.specs.Quantities.{compressionBound, calorificBound, densityBound, relativeBound, wobbeBound, scales, bounds};
+ghost use Rattle.properties.specs.Quantities.{compressionBound, calorificBound, densityBound, relativeBound, wobbeBound, massCalorificBound, scales, bounds};
 
 // A compression factor, unit 10^-9.
 pub struct CompressionFactor {
@@ -139,8 +139,33 @@ impl WobbeIndex {
     }
 }
 
-// The scales of Z, Hs, Hi, rho, d and W.
-pub fn scales() -> [u64; 6]
+// A calorific value per kilogram, unit 10 J/kg. SCALE of them make 1 MJ/kg.
+pub struct MassCalorificValue {
+    value: u32,
+}
+
+impl MassCalorificValue {
+    pub const SCALE: u64 = 100000;
+
+    pub const BOUND: u64 = 15000000;
+
+    pub fn new(value: u64) -> Self
+        requires { ⌜ value ≤ massCalorificBound ⌝ }
+        ensures { λ r. ⌜ r .value ≡ value ⌝ }
+    {
+        let value = value as u32;
+        Self { value }
+    }
+
+    pub fn value(self) -> u64
+        ensures { λ r. ⌜ r ≡ self .value ⌝ }
+    {
+        self.value as u64
+    }
+}
+
+// The scales of Z, Hs, Hi, rho, d, W and a value per kilogram.
+pub fn scales() -> [u64; 7]
     ensures { λ r. ⌜ r ≡ scales ⌝ }
 {
     [
@@ -150,11 +175,12 @@ pub fn scales() -> [u64; 6]
         Density::SCALE,
         RelativeDensity::SCALE,
         WobbeIndex::SCALE,
+        MassCalorificValue::SCALE,
     ]
 }
 
-// The ceilings of Z, Hs, Hi, rho, d and W.
-pub fn bounds() -> [u64; 6]
+// The ceilings of Z, Hs, Hi, rho, d, W and a value per kilogram.
+pub fn bounds() -> [u64; 7]
     ensures { λ r. ⌜ r ≡ bounds ⌝ }
 {
     [
@@ -164,5 +190,6 @@ pub fn bounds() -> [u64; 6]
         Density::BOUND,
         RelativeDensity::BOUND,
         WobbeIndex::BOUND,
+        MassCalorificValue::BOUND,
     ]
 }

@@ -1,15 +1,17 @@
-// The steps of document 01 from sums to properties, in its order and letters.
+// The steps of document 01 from sums to properties, in its order and letters, and from sums to the values per kilogram.
 ghost use mathlib.Core.Path.{_≡_};
 ghost use Prim.Native.Nat.{_*_, _^_, _≤_, _<_};
 ghost use lib.IntN.{natAbs};
 ghost use Rattle.rounding.specs.Near.{near};
-ghost use Rattle.components.specs.Bounds.{heatHigh, massHigh, summationHigh};
+ghost use Rattle.components.specs.Bounds.{heatHigh, massHigh, heatByMass, summationHigh};
 ghost use Rattle.properties.specs.Bounds.{anyHeat, anyMass, anyIdeal, airHigh, compressionLow, calorificHigh, relativeLow, byAir};
 ghost use Rattle.properties.specs.Quantities.{calorificBound, relativeBound};
 ghost use Rattle.properties.specs.Chain.{forMetering, temperature, divisor, airFactor, tenth, compression, idealCalorific, real, idealDensity, idealRelative, rootOf, wobbe};
+ghost use Rattle.properties.specs.PerKilogram.{perKilogram};
 use super::quantities::CalorificValue;
 use super::quantities::CompressionFactor;
 use super::quantities::Density;
+use super::quantities::MassCalorificValue;
 use super::quantities::RelativeDensity;
 use super::quantities::WobbeIndex;
 
@@ -137,6 +139,14 @@ pub fn wobbe_index(hs: CalorificValue, d: RelativeDensity) -> WobbeIndex
     ensures { λ r. ⌜ r .value ≡ wobbe (hs .value) (rootOf (d .value)) ⌝ }
 {
     WobbeIndex::new(index(hs.value(), d.value()))
+}
+
+// A calorific value per kilogram, from Hm and M.
+pub fn per_kilogram(hm: u64, m: u64) -> MassCalorificValue
+    requires { ⌜ (hm ≤ anyHeat) × (0 < m) × (hm ≤ heatByMass * m) ⌝ }
+    ensures { λ r. ⌜ r .value ≡ perKilogram hm m ⌝ }
+{
+    MassCalorificValue::new(rounding::nearest(hm * 1000000, m))
 }
 
 // The most that rho differs from d times the density of air.
