@@ -15,11 +15,11 @@ use Rattle.properties.specs.Answers.{numbers}
 use Rattle.meter.specs.declared.Gas.{Gas}
 use Rattle.meter.specs.declared.Register.{Register}
 use Rattle.meter.specs.declared.StreamTotals.{StreamTotals}
-use Rattle.meter.specs.State.{mostTotal, perMJ, nothingBooked, amountIn, SoundRegister, SoundEnergy, SoundTotals, SoundGas}
+use Rattle.meter.specs.State.{mostTotal, perMJ, nothingBooked, amountIn, SoundRegister, SoundEnergy, SoundMass, SoundTotals, SoundGas}
 use Rattle.meter.specs.Calls.{booked}
 use Rattle.meter.proofs.Registers.{amount-booked}
 use Rattle.lent_meter.specs.Check.{Tells, RegisterUnit, between, withinRanges, atMost}
-use Rattle.lent_meter.proofs.Telling.{tells-true, tells-false}
+use Rattle.lent_meter.proofs.Telling.{tells-true, tells-false, untold}
 
 -- a number above 255 is in no permitted pair
 pub large-combustion : (c m : ℕ) → 255 < c → false ≡ permitted c m
@@ -169,10 +169,14 @@ register-holds u floor ceiling v e least most some low high = go (ltb (e .rest) 
     go false h = tells-false (λ s. omega (arith, ltb-false (e .rest) u h, s .rest))
 
 -- totals, from the test of each energy
-pub totals-hold : (t : StreamTotals) (s i : Bool) → t .volume ≤ mostTotal → Tells s (SoundEnergy (t .volume) (t .superior)) → Tells i (SoundEnergy (t .volume) (t .inferior)) →
-    Tells (s && i && atMost (t .inferior) (t .superior)) (SoundTotals t)
-totals-hold t true true low h g =
+pub totals-hold : (t : StreamTotals) (s i m : Bool) → t .volume ≤ mostTotal → Tells s (SoundEnergy (t .volume) (t .superior)) → Tells i (SoundEnergy (t .volume) (t .inferior)) →
+    Tells m (SoundMass (t .volume) (t .mass)) → Tells (s && i && m && atMost (t .inferior) (t .superior)) (SoundTotals t)
+totals-hold t true true true low h g w =
     let order = amount-at-most perMJ (t .inferior) (t .superior) (g .only refl .rest) (h .only refl .rest) in
-    record { only = λ y. record { volume = low; superior = h .only refl; inferior = g .only refl; order = order .only y }; always = λ s. order .always (s .order) }
-totals-hold t false i low h g = tells-false (λ s. true≢false (sym (h .always (s .superior))))
-totals-hold t true false low h g = tells-false (λ s. true≢false (sym (g .always (s .inferior))))
+    record {
+      only = λ y. record { volume = low; superior = h .only refl; inferior = g .only refl; order = order .only y; mass = w .only refl };
+      always = λ s. order .always (s .order);
+    }
+totals-hold t false i m low h g w = tells-false (λ s. untold h refl (s .superior))
+totals-hold t true false m low h g w = tells-false (λ s. untold g refl (s .inferior))
+totals-hold t true true false low h g w = tells-false (λ s. untold w refl (s .mass))

@@ -1,4 +1,4 @@
--- A meter as the words that a caller lends: a row of 14 words for each of the 16 streams.
+-- A meter as the words that a caller lends: a row of 16 words for each of the 16 streams.
 use mathlib.Core.List.{List, [], _∷_, map}
 use Prim.Native.Nat.{ℕ}
 use lib.ListN.{getD, set}
@@ -13,11 +13,19 @@ use Rattle.meter.specs.declared.Meter.{Meter}
 
 -- words of a row
 abbrev pub rowLength : ℕ
-rowLength = 14
+rowLength = 16
 
--- totals: the volume in dm³, and the superior and the inferior energy, each as whole MJ and rest
+-- totals: the volume in dm³, the superior and the inferior energy, each as whole MJ and rest, and the mass as whole kg and rest
 abbrev pub packedTotals : StreamTotals → List ℕ
-packedTotals t = t .volume ∷ t .superior .whole ∷ t .superior .rest ∷ t .inferior .whole ∷ t .inferior .rest ∷ []
+packedTotals t =
+    t .volume
+    ∷ t .superior .whole
+    ∷ t .superior .rest
+    ∷ t .inferior .whole
+    ∷ t .inferior .rest
+    ∷ t .mass .whole
+    ∷ t .mass .rest
+    ∷ []
 
 -- a stream: 1, the pair, the properties, the totals
 abbrev pub gasWords : ℕ → ℕ → Six → List ℕ → List ℕ
@@ -57,6 +65,7 @@ totalsIn row =
       volume = getD row 9 0;
       superior = record { whole = getD row 10 0; rest = getD row 11 0 };
       inferior = record { whole = getD row 12 0; rest = getD row 13 0 };
+      mass = record { whole = getD row 14 0; rest = getD row 15 0 };
     }
 
 -- a row with another gas, and one with other totals; every other word as it was
@@ -66,4 +75,7 @@ withGasWords row combustion metering p =
 
 abbrev pub withTotalsWords : List ℕ → StreamTotals → List ℕ
 withTotalsWords row t =
-    set (set (set (set (set row 9 (t .volume)) 10 (t .superior .whole)) 11 (t .superior .rest)) 12 (t .inferior .whole)) 13 (t .inferior .rest)
+    set
+    (set (set (set (set (set (set row 9 (t .volume)) 10 (t .superior .whole)) 11 (t .superior .rest)) 12 (t .inferior .whole)) 13 (t .inferior .rest)) 14 (t .mass .whole))
+    15
+    (t .mass .rest)

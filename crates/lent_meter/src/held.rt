@@ -14,7 +14,7 @@ ghost use lib.ListN.{length, replicate};
 ghost use Rattle.records.specs.Conditions.{permitted};
 ghost use Rattle.properties.specs.Bounds.{Proper, DensityByAir};
 ghost use Rattle.properties.specs.Quantities.{Bounded};
-ghost use Rattle.meter.specs.State.{mostTotal, nothingBooked, SoundRegister, SoundEnergy, SoundTotals, SoundGas};
+ghost use Rattle.meter.specs.State.{mostTotal, nothingBooked, SoundRegister, SoundEnergy, SoundMass, SoundTotals, SoundGas};
 ghost use Rattle.meter.specs.Calls.{booked};
 ghost use Rattle.lent_meter.specs.Words.{totalsIn, sixIn, gasIn};
 ghost use Rattle.lent_meter.specs.Lent.{LentRow, EachLent};
@@ -156,6 +156,20 @@ fn holds_energy(energy: Register, volume: u64) -> bool
     )
 }
 
+// Whether a mass is one of a volume.
+fn holds_mass(mass: Register, volume: u64) -> bool
+    requires { ⌜ volume ≤ mostTotal ⌝ }
+    ensures { λ r. ⌜ Tells r (SoundMass volume mass) ⌝ }
+{
+    holds_register(
+        mass,
+        meter::PER_KG,
+        volume,
+        Density::FLOOR,
+        Density::BOUND,
+    )
+}
+
 // Whether the totals in a row are those of a stream.
 fn holds_totals(row: &Row) -> bool
     ensures { λ r. ⌜ Tells r (SoundTotals (totalsIn (now (row .entry)))) ⌝ }
@@ -166,6 +180,7 @@ fn holds_totals(row: &Row) -> bool
     }
     holds_energy(totals.superior, totals.volume)
         & holds_energy(totals.inferior, totals.volume)
+        & holds_mass(totals.mass, totals.volume)
         & at_most(totals.inferior, totals.superior)
 }
 

@@ -109,8 +109,8 @@ pub fn metering(words: &mut Words, stream: usize, volume: u64) -> u8
     metering_row(&mut words[stream], volume)
 }
 
-// The volume and the energies of a stream.
-pub fn totals(words: &Words, stream: usize, out: &mut [u64; 5]) -> u8
+// The volume, the energies and the mass of a stream.
+pub fn totals(words: &Words, stream: usize, out: &mut [u64; 7]) -> u8
     ensures { λ r. ⌜ OnReading packedTotals (λ (m : Meter). totalsOf m stream) (now (words .entry)) (now (out .entry)) r (now (out .exit)) ⌝ }
 {
     if meter::LAST_STREAM < stream {
@@ -123,6 +123,8 @@ pub fn totals(words: &Words, stream: usize, out: &mut [u64; 5]) -> u8
         found.superior.rest,
         found.inferior.whole,
         found.inferior.rest,
+        found.mass.whole,
+        found.mass.rest,
     ];
     0
 }

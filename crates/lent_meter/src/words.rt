@@ -13,7 +13,7 @@ ghost use Rattle.properties.specs.Quantities.{Bounded};
 ghost use Rattle.lent_meter.specs.Words.{totalsIn, sixIn, withGasWords, withTotalsWords};
 
 // Words of a stream.
-pub const WORDS: usize = 14;
+pub const WORDS: usize = 16;
 // The words in their order: 1 where there is an analysis, and 0 where there is none;
 pub const ANALYSED: usize = 0;
 // its pair of temperatures, in °C;
@@ -38,10 +38,14 @@ const VOLUME: usize = 9;
 const SUPERIOR: usize = 10;
 
 const SUPERIOR_REST: usize = 11;
-// and the inferior energy.
+// the inferior energy;
 const INFERIOR: usize = 12;
 
 const INFERIOR_REST: usize = 13;
+// and the mass, whole kg and rest in 10^-11 kg.
+const MASS: usize = 14;
+
+const MASS_REST: usize = 15;
 
 pub type Row = [u64; WORDS];
 
@@ -59,6 +63,10 @@ pub fn totals_in(row: &Row) -> StreamTotals
             whole: row[INFERIOR],
             rest: row[INFERIOR_REST],
         },
+        mass: Register {
+            whole: row[MASS],
+            rest: row[MASS_REST],
+        },
     }
 }
 
@@ -71,6 +79,8 @@ pub fn put_totals(row: &mut Row, totals: StreamTotals)
     row[SUPERIOR_REST] = totals.superior.rest;
     row[INFERIOR] = totals.inferior.whole;
     row[INFERIOR_REST] = totals.inferior.rest;
+    row[MASS] = totals.mass.whole;
+    row[MASS_REST] = totals.mass.rest;
 }
 
 // The properties in a row.

@@ -6,6 +6,8 @@ use Rattle.records.specs.Order.{firstOf, decided}
 use Rattle.records.specs.Format.{contentsIn, bytesOf, placed}
 use Rattle.records.specs.Conditions.{recordOrder, writerOrder}
 use Rattle.records.proofs.OrderLaws.{decided-refused}
+use Rattle.properties.specs.Chain.{sixOf}
+use Rattle.properties.specs.PerKilogram.{massBasisOf}
 use Rattle.properties.proofs.Outcomes.{number-of-refused}
 use Rattle.meter.specs.State.{streamAt}
 use Rattle.meter.specs.Conditions.{analysisOrder, meteringOrder, totalsOrder, meanOrder}
@@ -18,7 +20,8 @@ never n answer e = decided-refused n answer 0 e .1 refl
 pub zero-says-accepted : ZeroSaysAccepted
 zero-says-accepted =
     record {
-      properties = λ bs e. number-of-refused bs 0 (sym e) .1 refl;
+      properties = λ bs e. number-of-refused sixOf bs 0 (sym e) .1 refl;
+      per-kilogram = λ bs e. number-of-refused massBasisOf bs 0 (sym e) .1 refl;
       reading = λ bs. never (firstOf (recordOrder bs)) (contentsIn bs);
       writing = λ k old. never (firstOf (writerOrder k (length old))) (placed old 0 (bytesOf k));
       analysis = λ m k bs. never (firstOf (analysisOrder k bs (streamAt m k))) _;

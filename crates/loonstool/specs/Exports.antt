@@ -7,6 +7,7 @@ use Rattle.records.specs.Order.{Outcome, refused}
 use Rattle.records.specs.Format.{Contents}
 use Rattle.records.specs.Calls.{readingOf, writingOf}
 use Rattle.properties.specs.Chain.{Six, propertiesOf}
+use Rattle.properties.specs.PerKilogram.{MassBasis, perKilogramOf}
 use Rattle.meter.specs.declared.Register.{Register}
 use Rattle.meter.specs.declared.Meter.{Meter}
 use Rattle.meter.specs.State.{streamAt}
@@ -20,6 +21,7 @@ module _ {A : Type 0} where
 -- no call is refused with the number 0, so 0 says that it was accepted
 pub record ZeroSaysAccepted : Type 0 where
   pub properties : (bs : List ℕ) → NeverRefusedByZero (propertiesOf bs)
+  pub per-kilogram : (bs : List ℕ) → NeverRefusedByZero (perKilogramOf bs)
   pub reading : (bs : List ℕ) → NeverRefusedByZero (readingOf bs)
   pub writing : (k : Contents) (old : List ℕ) → NeverRefusedByZero (writingOf k old)
   pub analysis : (m : Meter) (k : ℕ) (bs : List ℕ) → NeverRefusedByZero (analysisOf m k bs)
@@ -31,6 +33,10 @@ pub record ZeroSaysAccepted : Type 0 where
 -- the properties in document 01's order
 abbrev pub inOrder : Six → List ℕ
 inOrder p = p .Z ∷ p .Hs ∷ p .Hi ∷ p .rho ∷ p .d ∷ p .W ∷ []
+
+-- the superior and the inferior value per kilogram
+abbrev pub bothValues : MassBasis → List ℕ
+bothValues v = v .superior ∷ v .inferior ∷ []
 
 -- an analysis in the places that a caller lends for its parts
 abbrev pub analysis : ℕ → ℕ → ℕ → List ℕ → List ℕ → Analysis

@@ -1,8 +1,9 @@
-// The library for firmware in C and Rust: the meter in words that the caller lends, the properties of a record, and records read and
-// written. include/loonstool.h declares its functions for C, rust/ wraps them for Rust. Each call that may be refused gives 0, or
+// The library for firmware in C and Rust: the meter in words that the caller lends, the properties of a record, its calorific values per
+// kilogram, and records read and written. include/loonstool.h declares its functions for C, rust/ wraps them for Rust. Each call that may be refused gives 0, or
 // document 01's number; a refusal leaves what the caller lent as it was.
 use lent_meter::Words;
 use properties::Answer;
+use properties::MassAnswer;
 use properties::Properties;
 use records::Verdict;
 ghost use mathlib.Core.Path.{_≡_};
@@ -12,14 +13,15 @@ ghost use Rattle.records.specs.Format.{contents};
 ghost use Rattle.records.specs.Calls.{readingOf, writingOf};
 ghost use Rattle.records.specs.Answers.{held, Returns};
 ghost use Rattle.properties.specs.Chain.{propertiesOf};
-ghost use Rattle.properties.specs.Answers.{numbers, meaning};
+ghost use Rattle.properties.specs.PerKilogram.{perKilogramOf};
+ghost use Rattle.properties.specs.Answers.{numbers, meaning, massMeaning};
 ghost use Rattle.meter.specs.declared.Meter.{Meter};
 ghost use Rattle.meter.specs.State.{freshMeter};
 ghost use Rattle.meter.specs.Calls.{analysisOf, meteringOf, totalsOf, meanOf, meanInferiorOf};
 ghost use Rattle.lent_meter.specs.Words.{packed, packedTotals};
 ghost use Rattle.lent_meter.specs.Lent.{Lent, OnWords, Leaves, OnReading};
 ghost use Rattle.lent_meter.specs.Check.{Tells};
-ghost use Rattle.loonstool.specs.Exports.{inOrder, analysis};
+ghost use Rattle.loonstool.specs.Exports.{inOrder, bothValues, analysis};
 
 // A meter as made.
 #[no_mangle]
@@ -56,9 +58,9 @@ pub extern "C" fn loonstool_meter_metering(meter: &mut Words, stream: usize, vol
     lent_meter::metering(meter, stream, volume)
 }
 
-// The volume and the energies of a stream.
+// The volume, the energies and the mass of a stream.
 #[no_mangle]
-pub extern "C" fn loonstool_meter_totals(meter: &Words, stream: usize, totals: &mut [u64; 5]) -> u8
+pub extern "C" fn loonstool_meter_totals(meter: &Words, stream: usize, totals: &mut [u64; 7]) -> u8
     ensures { λ r. ⌜ OnReading packedTotals (λ (m : Meter). totalsOf m stream) (now (meter .entry)) (now (totals .entry)) r (now (totals .exit)) ⌝ }
 {
     lent_meter::totals(meter, stream, totals)
@@ -115,6 +117,27 @@ pub extern "C" fn loonstool_properties_of(bytes: &[u8], properties: &mut [u64; 6
     ensures { λ r. ⌜ Returns (mapped inOrder (propertiesOf (now (bytes .entry)))) (now (properties .entry)) r (now (properties .exit)) ⌝ }
 {
     give(properties::properties_of(bytes), properties)
+}
+
+// The number of an answer, and its values per kilogram into lent memory.
+fn give_per_kilogram(answer: MassAnswer, values: &mut [u64; 2]) -> u8
+    ensures { λ r. ⌜ Returns (mapped bothValues (massMeaning answer)) (now (values .entry)) r (now (values .exit)) ⌝ }
+{
+    match answer {
+        MassAnswer::Refused(number) => number,
+        MassAnswer::Accepted(v) => {
+            *values = [v.superior.value(), v.inferior.value()];
+            0
+        }
+    }
+}
+
+// The superior and the inferior calorific value per kilogram of a record, unit 10 J/kg.
+#[no_mangle]
+pub extern "C" fn loonstool_per_kilogram(bytes: &[u8], values: &mut [u64; 2]) -> u8
+    ensures { λ r. ⌜ Returns (mapped bothValues (perKilogramOf (now (bytes .entry)))) (now (values .entry)) r (now (values .exit)) ⌝ }
+{
+    give_per_kilogram(properties::per_kilogram_of(bytes), values)
 }
 
 // Reads a record: the pair of temperatures in °C, the number of entries, and their line numbers and fractions, with 0 past them.

@@ -10,7 +10,7 @@ use Rattle.records.proofs.OrderLaws.{stops, passes}
 use Rattle.records.proofs.Heads.{Head}
 use Rattle.records.proofs.RoundTrips.{accepted-head}
 use Rattle.properties.specs.declared.Properties.{Properties}
-use Rattle.properties.specs.Chain.{Six, propertiesOf}
+use Rattle.properties.specs.Chain.{Six, sixOf, propertiesOf}
 use Rattle.properties.specs.Answers.{numbers, quantities}
 use Rattle.properties.proofs.Outcomes.{number-of-refused, clear-of-accepted}
 use Rattle.meter.specs.declared.Gas.{Gas}
@@ -25,11 +25,11 @@ pub gas-is : (p : Properties) (bs : List ℕ) → accepted (numbers p) ≡ prope
     _≡_ {A = Gas} (record { combustion = combustionIn bs; metering = meteringIn bs; properties = p }) (gasOf bs)
 gas-is p bs e =
     ap (λ (q : Six). record { combustion = combustionIn bs; metering = meteringIn bs; properties = quantities q })
-    (sym (clear-of-accepted bs (numbers p) e .1))
+    (sym (clear-of-accepted sixOf bs (numbers p) e .1))
 
 -- the head of an accepted record
 pub record-head : (bs : List ℕ) (p : Properties) → accepted (numbers p) ≡ propertiesOf bs → Head bs
-record-head bs p e = accepted-head bs (clear-of-accepted bs (numbers p) e .0)
+record-head bs p e = accepted-head bs (clear-of-accepted sixOf bs (numbers p) e .0)
 
 -- the number of an analysis call, where the record is refused, and where it is accepted
 module _ (m : Meter) (k : ℕ) (bs : List ℕ) where
@@ -38,11 +38,11 @@ module _ (m : Meter) (k : ℕ) (bs : List ℕ) where
 
   pub record-refused : k ≤ lastStream → (n : ℕ) → refused n ≡ propertiesOf bs → n ≡ firstOf (analysisOrder k bs (streamAt m k))
   record-refused low n e =
-      let r = number-of-refused bs n e in
+      let r = number-of-refused sixOf bs n e in
       stops (recordOrder bs) fourteen (r .0) (r .1) ∙ not-above (recordOrder bs ++ fourteen) low
 
   pub record-accepted : k ≤ lastStream → (p : Properties) → accepted (numbers p) ≡ propertiesOf bs → {differs : Bool} {n : ℕ} →
       differs ≡ pairDiffers (streamAt m k .analysis) (combustionIn bs) (meteringIn bs) → n ≡ firstOf (pairOrder differs) → n ≡ firstOf (analysisOrder k bs (streamAt m k))
   record-accepted low p e differs h =
-      passes (recordOrder bs) fourteen tt refl (clear-of-accepted bs (numbers p) e .0) (h ∙ ap (λ (b : Bool). firstOf (pairOrder b)) differs)
+      passes (recordOrder bs) fourteen tt refl (clear-of-accepted sixOf bs (numbers p) e .0) (h ∙ ap (λ (b : Bool). firstOf (pairOrder b)) differs)
       ∙ not-above (recordOrder bs ++ fourteen) low

@@ -2,7 +2,9 @@
 use mathlib.Core.Path.{_≡_, refl, sym, subst, _∙_}
 use mathlib.Core.Bool.{Bool, true, false, cond}
 use mathlib.Core.List.{List}
-use Prim.Native.Nat.{ℕ, zero, suc, _+_, _*_, _≤_}
+use mathlib.Core.Logic.{⊎-elim}
+use Prim.Native.Nat.{ℕ, zero, suc, _+_, _*_, _^_, _≤_, _<_}
+use native.Mathlib.Nat.{lt-trans, mul-le-mul}
 use native.Mathlib.Omega.{arith}
 use borrow.Author.Tests.{le-ltb, ltb-false, eqb-false}
 use lib.Dec.{eqb}
@@ -15,20 +17,20 @@ use Rattle.records.specs.Answers.{Gives, verdictOf}
 use Rattle.records.proofs.OrderLaws.{unmet, decided-accepted, gives}
 use Rattle.records.proofs.RoundTrips.{accepted-head}
 use Rattle.records.proofs.Accepted.{acceptable}
-use Rattle.properties.specs.Bounds.{calorificLow}
-use Rattle.properties.specs.Quantities.{calorificBound}
+use Rattle.properties.specs.Bounds.{calorificLow, densityLow}
+use Rattle.properties.specs.Quantities.{calorificBound, densityBound}
 use Rattle.properties.proofs.Gas.{proper, density-by-air}
 use Rattle.meter.specs.declared.InForce.{InForce}
 use Rattle.meter.specs.declared.InForce.the-variants.{Nothing, Known}
 use Rattle.meter.specs.declared.Register.{Register}
 use Rattle.meter.specs.declared.Stream.{Stream}
 use Rattle.meter.specs.declared.Meter.{Meter}
-use Rattle.meter.specs.State.{lastStream, mostTotal, SoundEnergy, SoundTotals, SoundGas, SoundAnalysis, SoundStream, Sound, freshStream, streamAt, withStream, perMJ}
+use Rattle.meter.specs.State.{lastStream, mostTotal, SoundRegister, SoundEnergy, SoundTotals, SoundGas, SoundAnalysis, SoundStream, Sound, freshStream, streamAt, withStream, perMJ, perKg}
 use Rattle.meter.specs.Conditions.{analysisOrder, meteringOrder, meanOrder}
 use Rattle.meter.specs.Calls.{analysed, booked, withVolume, metered, afterAnalysis, afterMetering, meanIn, meanReading}
-use Rattle.meter.specs.Kept.{FreshIsSound, AnalysisKeeps, MeteringKeeps, AnalysisLeavesOthers, MeteringLeavesOthers, ZeroIsAccepted, NoMeanAboveCeiling}
+use Rattle.meter.specs.Kept.{FreshIsSound, AnalysisKeeps, MeteringKeeps, AnalysisLeavesOthers, MeteringLeavesOthers, ZeroIsAccepted, PartsFit, RegistersFit, NoMeanAboveCeiling}
 use Rattle.meter.proofs.Orders.{clear-analysis, clear-metering}
-use Rattle.meter.proofs.Registers.{sound-booked, booked-at-most}
+use Rattle.meter.proofs.Registers.{sound-booked, booked-at-most, whole-below}
 use Rattle.meter.proofs.Streams.{at-made, at-put}
 use Rattle.meter.proofs.Means.{mean-bounded}
 
@@ -89,6 +91,7 @@ sound-metered s w (Known gas) is old total =
         superior = sound-energy w (t .superior) (o .superior) (p .floored .Hs) (p .bounded .Hs);
         inferior = sound-energy w (t .inferior) (o .inferior) (p .floored .Hi) (p .bounded .Hi);
         order = booked-at-most perMJ (omega arith) w (t .inferior) (t .superior) (o .order) (p .order);
+        mass = sound-booked perKg (omega arith) densityLow densityBound (t .volume) w _ (t .mass) (o .mass) (p .floored .rho) (p .bounded .rho);
       };
     }
 
@@ -129,6 +132,22 @@ metering-leaves-others m k w v after = others-stay (firstOf (meteringOrder k w (
 pub zero-is-accepted : ZeroIsAccepted
 zero-is-accepted m k h b some =
     rw (le-ltb lastStream k b, some, le-ltb mostTotal (streamAt m k .totals .volume + 0) (omega (arith, h .each k b .totals .volume)))
+
+-- a register of a volume total
+parts-fit : (u floor ceiling v : ℕ) (e : Register) → 0 < u → u < 2 ^ 64 → v * ceiling < 2 ^ 64 * u → SoundRegister u floor ceiling v e → PartsFit e
+parts-fit u floor ceiling v e some small most s = record { whole = whole-below u some (2 ^ 64) floor ceiling v e s most; rest = lt-trans (s .rest) small }
+
+pub registers-fit : RegistersFit
+registers-fit =
+    record {
+      superior = λ t s. energy (t .superior) (s .volume) (s .superior);
+      inferior = λ t s. energy (t .inferior) (s .volume) (s .inferior);
+      mass = λ t s. parts-fit perKg densityLow densityBound (t .volume) (t .mass) (omega arith) (omega arith) (omega (arith, s .volume)) (s .mass);
+      booking = λ v h low value. ⊎-elim (λ c. omega (arith, mul-le-mul low c)) (λ c. omega (arith, mul-le-mul low c)) value;
+    }
+  where
+    energy : {v : ℕ} (e : Register) → v ≤ mostTotal → SoundEnergy v e → PartsFit e
+    energy {v} e total = parts-fit perMJ calorificLow calorificBound v e (omega arith) (omega arith) (omega arith)
 
 mean-at-most : (m : Meter) (k h : ℕ) (e : Register) → Sound m → (SoundTotals (streamAt m k .totals) → SoundEnergy (streamAt m k .totals .volume) e) →
     meanReading k (streamAt m k) e ≡ accepted h → h ≤ calorificBound

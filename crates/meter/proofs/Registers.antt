@@ -1,7 +1,7 @@
 -- A register, u units of whose rest make one whole: what is booked is added to its amount, and its rest stays below one whole.
 use mathlib.Core.Path.{_≡_, sym, ap, _∙_}
 use Prim.Native.Nat.{ℕ, _+_, _*_, _/_, _%_, _≤_, _<_}
-use native.Mathlib.Nat.{add-comm, add-mul-div-right, add-mul-mod-self-right, div-add-mod', mod-lt, mul-le-mul-left}
+use native.Mathlib.Nat.{add-comm, add-mul-div-right, add-mul-mod-self-right, div-add-mod', mod-lt, mul-le-mul-left, lt-of-mul-lt-mul-right}
 use native.Mathlib.Omega.{arith}
 use Rattle.meter.specs.declared.Register.{Register}
 use Rattle.meter.specs.State.{amountIn, SoundRegister}
@@ -35,3 +35,7 @@ module _ (u : ℕ) (p : 0 < u) where
   -- a register that holds no more than another, with a volume w at a value x no more than the other's y
   pub booked-at-most : (w : ℕ) {x y : ℕ} (e f : Register) → amountIn u e ≤ amountIn u f → x ≤ y → amountIn u (booked u e (w * x)) ≤ amountIn u (booked u f (w * y))
   booked-at-most w {x} {y} e f h low = omega (arith, amount-booked e (w * x), amount-booked f (w * y), mul-le-mul-left w low)
+
+  -- its whole part is below n, where the most that it comes to is below n wholes
+  pub whole-below : (n floor ceiling v : ℕ) (e : Register) → SoundRegister u floor ceiling v e → v * ceiling < n * u → e .whole < n
+  whole-below n floor ceiling v e s most = lt-of-mul-lt-mul-right u (omega (arith, s .most))

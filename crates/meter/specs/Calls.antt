@@ -14,7 +14,7 @@ use Rattle.meter.specs.declared.Register.{Register}
 use Rattle.meter.specs.declared.Stream.{Stream}
 use Rattle.meter.specs.declared.Meter.{Meter}
 use Rattle.meter.specs.declared.StreamTotals.{StreamTotals}
-use Rattle.meter.specs.State.{streamAt, withStream, amountIn, perMJ}
+use Rattle.meter.specs.State.{streamAt, withStream, amountIn, perMJ, perKg}
 use Rattle.meter.specs.Conditions.{totalZero, zeroOrder, analysisOrder, meteringOrder, totalsOrder, meanOrder}
 
 -- an accepted record as a gas in force
@@ -32,13 +32,14 @@ analysed s bs = withGas s (gasOf bs)
 abbrev pub booked : ℕ → Register → ℕ → Register
 booked u e n = record { whole = (amountIn u e + n) / u; rest = (amountIn u e + n) % u }
 
--- totals with v dm³ more, and v × Hs and v × Hi mJ more
+-- totals with v dm³ more, v × Hs and v × Hi mJ more, and v × rho of 10^-11 kg more
 abbrev pub added : StreamTotals → Properties → ℕ → StreamTotals
 added t p v =
     record {
       volume = t .volume + v;
       superior = booked perMJ (t .superior) (v * p .hs .value);
       inferior = booked perMJ (t .inferior) (v * p .hi .value);
+      mass = booked perKg (t .mass) (v * p .rho .value);
     }
 
 -- a stream with v dm³ more, by the analysis in force; with none, 16 has refused the call

@@ -3,13 +3,16 @@
 use mathlib.Core.Path.{_≡_}
 use mathlib.Core.Bool.{false}
 use mathlib.Core.List.{List}
-use Prim.Native.Nat.{ℕ, _≤_}
+use mathlib.Core.Logic.{_⊎_}
+use Prim.Native.Nat.{ℕ, _*_, _^_, _≤_, _<_}
 use Rattle.records.specs.declared.Verdict.{Verdict}
 use Rattle.records.specs.Order.{Outcome, accepted, firstOf}
 use Rattle.records.specs.Answers.{Gives}
-use Rattle.properties.specs.Quantities.{calorificBound}
+use Rattle.properties.specs.Quantities.{calorificBound, densityBound}
+use Rattle.meter.specs.declared.Register.{Register}
+use Rattle.meter.specs.declared.StreamTotals.{StreamTotals}
 use Rattle.meter.specs.declared.Meter.{Meter}
-use Rattle.meter.specs.State.{lastStream, Sound, freshMeter, streamAt}
+use Rattle.meter.specs.State.{lastStream, mostVolume, SoundTotals, Sound, freshMeter, streamAt}
 use Rattle.meter.specs.Conditions.{noAnalysis, meteringOrder}
 use Rattle.meter.specs.Calls.{analysisOf, meteringOf, meanOf, meanInferiorOf}
 
@@ -37,6 +40,18 @@ MeteringLeavesOthers =
 -- volume 0 is accepted on every stream that has an analysis
 abbrev pub ZeroIsAccepted : Type 0
 ZeroIsAccepted = (m : Meter) (k : ℕ) → Sound m → k ≤ lastStream → noAnalysis (streamAt m k .analysis) ≡ false → firstOf (meteringOrder k 0 (streamAt m k)) ≡ 0
+
+-- The parts of every register fit 64 bits, and so does what one call books. A whole amount need not, and no call forms it in one number:
+-- 999,999,999,999 dm³ at the ceiling of rho are some 5.1 × 10^20 of 10^-11 kg.
+pub record PartsFit (e : Register) : Type 0 where
+  pub whole : e .whole < 2 ^ 64
+  pub rest : e .rest < 2 ^ 64
+
+pub record RegistersFit : Type 0 where
+  pub superior : (t : StreamTotals) → SoundTotals t → PartsFit (t .superior)
+  pub inferior : (t : StreamTotals) → SoundTotals t → PartsFit (t .inferior)
+  pub mass : (t : StreamTotals) → SoundTotals t → PartsFit (t .mass)
+  pub booking : (v h : ℕ) → v ≤ mostVolume → (h ≤ calorificBound) ⊎ (h ≤ densityBound) → v * h < 2 ^ 64
 
 -- neither mean is above the ceiling of a calorific value
 abbrev pub AtMostCeiling : (Meter → ℕ → Outcome ℕ) → Type 0

@@ -4,8 +4,8 @@ use mathlib.Core.Bool.{true}
 use Prim.Native.Nat.{ℕ, _+_, _*_, _≤_, _<_}
 use lib.ListN.{length, getD, set, replicate}
 use Rattle.records.specs.Conditions.{permitted}
-use Rattle.properties.specs.Bounds.{calorificLow, Proper, DensityByAir}
-use Rattle.properties.specs.Quantities.{calorificBound}
+use Rattle.properties.specs.Bounds.{calorificLow, densityLow, Proper, DensityByAir}
+use Rattle.properties.specs.Quantities.{calorificBound, densityBound}
 use Rattle.properties.specs.Answers.{numbers}
 use Rattle.meter.specs.declared.Gas.{Gas}
 use Rattle.meter.specs.declared.InForce.{InForce}
@@ -30,13 +30,17 @@ mostTotal = 999999999999
 abbrev pub perMJ : ℕ
 perMJ = 1000000000
 
+-- 10^-11 kg in 1 kg
+abbrev pub perKg : ℕ
+perKg = 100000000000
+
 -- a register at first
 abbrev pub nothingBooked : Register
 nothingBooked = record { whole = 0; rest = 0 }
 
--- volume 0, both energies 0
+-- volume 0, both energies 0, mass 0
 abbrev pub freshTotals : StreamTotals
-freshTotals = record { volume = 0; superior = nothingBooked; inferior = nothingBooked }
+freshTotals = record { volume = 0; superior = nothingBooked; inferior = nothingBooked; mass = nothingBooked }
 
 -- no analysis
 abbrev pub freshStream : Stream
@@ -69,12 +73,17 @@ pub record SoundRegister (u floor ceiling v : ℕ) (e : Register) : Type 0 where
 abbrev pub SoundEnergy : ℕ → Register → Type 0
 SoundEnergy = SoundRegister perMJ calorificLow calorificBound
 
+-- and of a mass
+abbrev pub SoundMass : ℕ → Register → Type 0
+SoundMass = SoundRegister perKg densityLow densityBound
+
 -- what holds of the totals of every stream
 pub record SoundTotals (t : StreamTotals) : Type 0 where
   pub volume : t .volume ≤ mostTotal
   pub superior : SoundEnergy (t .volume) (t .superior)
   pub inferior : SoundEnergy (t .volume) (t .inferior)
   pub order : amountIn perMJ (t .inferior) ≤ amountIn perMJ (t .superior)
+  pub mass : SoundMass (t .volume) (t .mass)
 
 -- what holds of every gas in force: the pair is permitted, and the properties are those of an accepted record as far as `Proper` and
 -- `DensityByAir` tell

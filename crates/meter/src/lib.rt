@@ -1,4 +1,4 @@
-// The meter of document 01: sixteen streams, each with the analysis in force, a volume total and two energy registers. Every call on a
+// The meter of document 01: sixteen streams, each with the analysis in force, a volume total, two energies and a mass. Every call on a
 // meter as made or as its calls left it, with any stream, record and volume, gets its answer or the one number of its refusal. A call
 // that may change the meter takes it by value and gives it back, as it was where the call is refused.
 use properties::Answer;
@@ -24,6 +24,8 @@ pub const MOST_VOLUME: u64 = 10000000;
 pub const MOST_TOTAL: u64 = 999999999999;
 // mJ in 1 MJ.
 pub const PER_MJ: u64 = 1000000000;
+// 10^-11 kg in 1 kg.
+pub const PER_KG: u64 = 100000000000;
 
 // The properties of an accepted record, and its pair of temperatures in °C.
 pub struct Gas {
@@ -38,17 +40,18 @@ pub enum InForce {
     Known(Gas),
 }
 
-// An amount in two parts, of energy whole MJ and a rest below 10^9 mJ.
+// An amount in two parts: of energy whole MJ and a rest below 10^9 mJ, of mass whole kg and a rest below 10^11 of 10^-11 kg.
 pub struct Register {
     pub whole: u64,
     pub rest: u64,
 }
 
-// The totals of a stream: the volume in dm³, and the energies by the superior and by the inferior calorific value.
+// The totals of a stream: the volume in dm³, the energies by the superior and by the inferior calorific value, and the mass.
 pub struct StreamTotals {
     pub volume: u64,
     pub superior: Register,
     pub inferior: Register,
+    pub mass: Register,
 }
 
 // A stream: the analysis in force, and the totals.
@@ -91,6 +94,7 @@ pub fn fresh() -> Meter
             volume: 0,
             superior: nothing,
             inferior: nothing,
+            mass: nothing,
         },
     };
     Meter {
@@ -202,7 +206,7 @@ pub fn booked(before: Register, unit: u64, volume: u64, value: u64) -> Register
     }
 }
 
-// The totals with the volume, and volume × Hs and volume × Hi in mJ, added.
+// The totals with the volume, volume × Hs and volume × Hi in mJ, and volume × rho in 10^-11 kg, added.
 pub fn added(before: StreamTotals, properties: Properties, volume: u64) -> StreamTotals
     requires { ⌜ SoundTotals before × Bounded (numbers properties) ⌝ }
     requires { ⌜ (volume ≤ mostVolume) × (before .volume + volume ≤ mostTotal) ⌝ }
@@ -210,10 +214,12 @@ pub fn added(before: StreamTotals, properties: Properties, volume: u64) -> Strea
 {
     let superior = booked(before.superior, PER_MJ, volume, properties.hs.value());
     let inferior = booked(before.inferior, PER_MJ, volume, properties.hi.value());
+    let mass = booked(before.mass, PER_KG, volume, properties.rho.value());
     StreamTotals {
         volume: before.volume + volume,
         superior,
         inferior,
+        mass,
     }
 }
 
@@ -255,7 +261,7 @@ pub fn metering(mut meter: Meter, stream: usize, volume: u64) -> Changed
     }
 }
 
-// The volume and the energies of a stream.
+// The volume, the energies and the mass of a stream.
 pub fn totals(meter: Meter, stream: usize) -> TotalsAnswer
     ensures { λ r. ⌜ totalsMeaning r ≡ totalsOf meter stream ⌝ }
 {

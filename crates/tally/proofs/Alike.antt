@@ -13,11 +13,11 @@ use Rattle.rounding.proofs.FractionLaws.{within-plus, within-times}
 use Rattle.records.specs.Order.{firstOf}
 use Rattle.records.specs.Format.{combustionIn, meteringIn, contentsIn}
 use Rattle.records.proofs.Accepted.{acceptable}
-use Rattle.properties.specs.Chain.{Six}
+use Rattle.properties.specs.Chain.{Six, sixOf}
 use Rattle.properties.specs.Unrounded as unrounded
 use Rattle.properties.specs.Answers.{numbers}
 use Rattle.properties.proofs.Gas.{distances}
-use Rattle.properties.proofs.Outcomes.{accepted-properties, clear-of-accepted}
+use Rattle.properties.proofs.Outcomes.{accepted-reading, clear-of-accepted}
 use Rattle.meter.specs.declared.InForce.{InForce}
 use Rattle.meter.specs.declared.InForce.the-variants.{Known}
 use Rattle.meter.specs.declared.Register.{Register}
@@ -92,7 +92,7 @@ module _ (s : Stream) (l : StreamTally) (h : Alike s l) (k : ℕ) where
   pub analysis-alike : (bs : List ℕ) → firstOf (analysisOrder k bs s) ≡ 0 → Alike (analysed s bs) (leftBy (analysis bs) l)
   analysis-alike bs z =
       record {
-        inForce = known bs (gasOf bs) refl refl (accepted-properties bs (clear-analysis k bs s z .clear));
+        inForce = known bs (gasOf bs) refl refl (accepted-reading sixOf bs (clear-analysis k bs s z .clear));
         pair = refl;
         volume = h .volume;
         energy = for-both (AlikeEnergy (analysed s bs) (leftBy (analysis bs) l)) (h .energy superior) (h .energy inferior);
@@ -109,7 +109,7 @@ module _ (s : Stream) (l : StreamTally) (h : Alike s l) (k : ℕ) where
       go : {i : InForce} {o : Option (List ℕ)} → s .analysis ≡ i → SameInForce i o → Alike (withVolume i v s) (meteredBy o v l)
       go ei nothing = elim (true≢false (sym (ap noAnalysis ei) ∙ clear-metering k v s z .analysed)) [ ]
       go ei (known bs gas ec em e) =
-          let found = clear-of-accepted bs (numbers (gas .properties)) e in
+          let found = clear-of-accepted sixOf bs (numbers (gas .properties)) e in
           let near = distances (contentsIn bs) (acceptable bs (found .0)) in
           record {
             inForce = h .inForce;

@@ -1,4 +1,4 @@
--- The volume and its two energies.
+-- The volume, its two energies and its mass.
 use borrow.Author.Needs.{needs}
 use Rattle.meter.proofs.added.Statement.{statement}
 use Rattle.meter.proofs.added.Tie as tie
@@ -7,6 +7,8 @@ pub added-spec : {M : Type 1} → statement M
 added-spec =
     tie.close
     (tie.spec
+    (λ c κs. search needs)
+    (λ c κs. search needs)
     (λ c κs. search needs)
     (λ c κs. search needs)
     (λ c κs. search needs)

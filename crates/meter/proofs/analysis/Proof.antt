@@ -11,7 +11,7 @@ use Rattle.records.proofs.Heads.{Head}
 use Rattle.properties.specs.declared.Answer.{Answer}
 use Rattle.properties.specs.declared.Answer.the-variants.{Accepted, Refused}
 use Rattle.properties.specs.declared.Properties.{Properties}
-use Rattle.properties.specs.Chain.{propertiesOf}
+use Rattle.properties.specs.Chain.{sixOf, propertiesOf}
 use Rattle.properties.specs.Answers.{numbers, meaning}
 use Rattle.properties.proofs.Outcomes.{number-of-refused}
 use Rattle.meter.specs.declared.Meter.{Meter}
@@ -58,7 +58,7 @@ returns c =
     ⊎-elim
     (λ x.
     let e = is-refused s (x .1 .ensures) (x .3 .given .1) in
-    gives-refusal new (m s) v (x .6 ∙ record-refused (m s) (k s) (bs s) (x .0 .taken) _ e) (λ z. number-of-refused (bs s) _ e .1 (sym (x .6) ∙ z)) (x .5))
+    gives-refusal new (m s) v (x .6 ∙ record-refused (m s) (k s) (bs s) (x .0 .taken) _ e) (λ z. number-of-refused sixOf (bs s) _ e .1 (sym (x .6) ∙ z)) (x .5))
     (⊎-elim
     (λ x.
     let e = is-accepted s (x .1 .ensures) (x .3 .given .1) in
