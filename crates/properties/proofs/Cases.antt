@@ -9,7 +9,7 @@ use Rattle.records.specs.Conditions.{lineBreaks, fractionZero, anyAbove}
 use Rattle.records.specs.Cases.{sameOutcome, upFrom}
 use Rattle.properties.specs.Chain.{T, D, HmSuperior, HmInferior, M, S, S9, Z, Hs, Hi, rho, A, G, d, r, W}
 use Rattle.properties.specs.Quantities.{BoundsBelow}
-use Rattle.properties.specs.Cases.{K1, K2, GasesHold}
+use Rattle.properties.specs.Cases.{K1, K2, GasesHold, MassGasesHold}
 
 pub bounds-below : BoundsBelow
 bounds-below = refl
@@ -25,3 +25,7 @@ k2 = refl
 pub gases-hold : GasesHold
 unfolding near nearZ floor root rootFrom componentTable total fractionFor overLines linesOf fractionsOf entriesBytes lineBreaks fractionZero anyAbove sameOutcome upFrom T D HmSuperior HmInferior M S S9 Z Hs Hi rho A G d r W
 gases-hold = refl
+
+pub mass-gases-hold : MassGasesHold
+unfolding near componentTable total fractionFor overLines linesOf fractionsOf entriesBytes lineBreaks fractionZero anyAbove sameOutcome upFrom HmSuperior HmInferior M
+mass-gases-hold = refl

@@ -1,4 +1,4 @@
--- The cases of document 01 that print properties, and further gases: lists and tests that compute.
+-- The cases of document 01 that print properties, further gases, and values per kilogram: lists and tests that compute.
 use mathlib.Core.Path.{_≡_}
 use mathlib.Core.Bool.{Bool, true, _&&_}
 use mathlib.Core.List.{List, [], _∷_}
@@ -10,6 +10,7 @@ use Rattle.records.specs.Order.{accepted, mapped}
 use Rattle.records.specs.Format.{Contents, contents, bytesOf}
 use Rattle.records.specs.Cases.{sameOutcome, annexD, k2, fullGas, upFrom}
 use Rattle.properties.specs.Chain.{Six, propertiesOf}
+use Rattle.properties.specs.PerKilogram.{MassBasis, perKilogramOf}
 
 abbrev pub six : ℕ → ℕ → ℕ → ℕ → ℕ → ℕ → Six
 six Z Hs Hi rho d W = record { Z = Z; Hs = Hs; Hi = Hi; rho = rho; d = d; W = W }
@@ -65,3 +66,40 @@ gases =
 
 abbrev pub GasesHold : Type 0
 GasesHold = all (λ (c : Contents × Six). sameOutcome sameSix (propertiesOf (bytesOf (c .0))) (accepted (c .1))) gases ≡ true
+
+-- values per kilogram, superior and inferior
+abbrev pub per : ℕ → ℕ → MassBasis
+per superior inferior = record { superior = superior; inferior = inferior }
+
+abbrev pub sameMass : MassBasis → MassBasis → Bool
+sameMass v w = eqb (v .superior) (w .superior) && eqb (v .inferior) (w .inferior)
+
+abbrev pub methane : ℕ → ℕ → Contents
+methane c m = contents c m (1 ∷ []) (1000000 ∷ [])
+
+-- Hm × 1,000,000 / M of the superior Hm at 15 °C is 5,217,187.5
+abbrev pub halfGas : ℕ → ℕ → Contents
+halfGas c m = contents c m (1 ∷ 2 ∷ 52 ∷ []) (905709 ∷ 60753 ∷ 33538 ∷ [])
+
+-- Gases and their values per kilogram: methane at each combustion temperature, at 15 °C as document 02 prints it; the gas of annex D at every
+-- permitted pair; a gas on a half. `cargo run --example expected -- kilograms` in rust/ prints the rows.
+abbrev pub massGases : List (Contents × MassBasis)
+massGases =
+    (methane 25 0, per 5551518 5002805)
+    ∷ (methane 20 20, per 5554385 5003117)
+    ∷ (methane 15 15, per 5557315 5003366)
+    ∷ (methane 0 0, per 5566104 5004176)
+    ∷ (annexD 15 15, per 5258576 4743699)
+    ∷ (annexD 0 0, per 5266776 4744482)
+    ∷ (annexD 15 0, per 5258576 4743699)
+    ∷ (annexD 25 0, per 5253171 4743158)
+    ∷ (annexD 20 20, per 5255846 4743454)
+    ∷ (annexD 25 20, per 5253171 4743158)
+    ∷ (hydrogen 15 15, per 5614062 5049273)
+    ∷ (heavy 0 0, per 4949209 4560652)
+    ∷ (everyLine 25 20, per 5413416 4891541)
+    ∷ (halfGas 15 15, per 5217188 4705015)
+    ∷ []
+
+abbrev pub MassGasesHold : Type 0
+MassGasesHold = all (λ (c : Contents × MassBasis). sameOutcome sameMass (perKilogramOf (bytesOf (c .0))) (accepted (c .1))) massGases ≡ true

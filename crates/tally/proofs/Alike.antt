@@ -27,7 +27,7 @@ use Rattle.meter.specs.Conditions.{pairDiffers, noAnalysis, analysisOrder, mete
 use Rattle.meter.specs.Calls.{gasOf, analysed, booked, withVolume, metered, meanIn}
 use Rattle.meter.proofs.Registers.{amount-booked}
 use Rattle.meter.proofs.Orders.{clear-analysis, clear-metering}
-use Rattle.tally.specs.Tally.{perMJ, Energy, superior, inferior, analysis, metering, totals, mean, meanIs, Account, partsOf, grown, StreamTally, accountOf, otherPair, noRecord, orderOf, meteredBy, leftBy, givenBy}
+use Rattle.tally.specs.Tally.{perMJ, perKg, Energy, superior, inferior, analysis, metering, totals, mean, meanIs, Account, partsOf, grown, StreamTally, accountOf, otherPair, noRecord, orderOf, meteredBy, leftBy, givenBy}
 use Rattle.tally.specs.Run.{partsGiven, totalsGiven}
 use Rattle.tally.specs.Demand.{AccountWithin, SameInForce, nothing, known}
 use Rattle.tally.proofs.Energies.{registerOf, for-both}
@@ -51,6 +51,7 @@ pub record Alike (s : Stream) (l : StreamTally) : Type 0 where
   pub pair : l .pair ≡ pairOf (l .inForce)
   pub volume : s .totals .volume ≡ l .volume
   pub energy : (e : Energy) → AlikeEnergy s l e
+  pub mass : AlikeRegister perKg (l .volume) (s .totals .mass) (l .mass)
 
 -- a volume w at a value n that is the record's h, which is x unrounded
 register-grows : (u v w : ℕ) {n h : ℕ} (x : Fraction) (e : Register) (a : Account) → 0 < u → n ≡ h → Within (whole 2) h x → AlikeRegister u v e a →
@@ -96,6 +97,7 @@ module _ (s : Stream) (l : StreamTally) (h : Alike s l) (k : ℕ) where
         pair = refl;
         volume = h .volume;
         energy = for-both (AlikeEnergy (analysed s bs) (leftBy (analysis bs) l)) (h .energy superior) (h .energy inferior);
+        mass = h .mass;
       }
 
   -- an accepted volume
@@ -119,12 +121,15 @@ module _ (s : Stream) (l : StreamTally) (h : Alike s l) (k : ℕ) where
                 for-both (AlikeEnergy (withVolume (Known gas) v s) (meteredBy (some bs) v l))
                 (grows superior (unrounded.Hs (contentsIn bs)) (sym (ap (λ (p : Six). p .Hs) (found .1))) (near .Hs))
                 (grows inferior (unrounded.Hi (contentsIn bs)) (sym (ap (λ (p : Six). p .Hi) (found .1))) (near .Hi));
+            mass =
+                register-grows perKg (l .volume) v (unrounded.rho (contentsIn bs)) (s .totals .mass) (l .mass) (omega arith) (sym (ap (λ (p : Six). p .rho) (found .1)))
+                (near .rho) (h .mass);
           }
 
 -- the same readings
 module _ (s : Stream) (l : StreamTally) (h : Alike s l) where
   pub totals-alike : totalsGiven (s .totals) ≡ givenBy totals l
-  totals-alike = cc (h .volume, parts superior, parts inferior)
+  totals-alike = cc (h .volume, parts superior, parts inferior, parts-alike perKg (l .volume) (s .totals .mass) (l .mass) (h .mass))
     where
       parts : (e : Energy) → partsGiven (registerOf e (s .totals)) ≡ partsOf perMJ (accountOf e l)
       parts e = parts-alike perMJ (l .volume) (registerOf e (s .totals)) (accountOf e l) (h .energy e)

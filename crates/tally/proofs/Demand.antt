@@ -19,7 +19,7 @@ use Rattle.meter.specs.State.{Sound, nothingBooked, freshStream, freshMeter, st
 use Rattle.meter.proofs.Orders.{record-clear}
 use Rattle.meter.proofs.Streams.{at-made}
 use Rattle.meter.proofs.Kept.{fresh-is-sound}
-use Rattle.tally.specs.Tally.{lastStream, perMJ, Energy, analysis, Call, done, Answer, StreamTally, accountOf, noAccount, freshStreamTally, Tally, freshTally, tallyAt, aboveLast, otherPair, orderOf, tallyAfter, answersTo, tallied}
+use Rattle.tally.specs.Tally.{lastStream, perMJ, perKg, Energy, analysis, Call, done, Answer, StreamTally, accountOf, noAccount, freshStreamTally, Tally, freshTally, tallyAt, aboveLast, otherPair, orderOf, tallyAfter, answersTo, tallied}
 use Rattle.tally.specs.Run.{Run, ended, after, by-totals, by-mean}
 use Rattle.tally.specs.Demand.{acceptedVolume, AcceptedIn, here, later, AnalysisShown, nothing, MeanWithin, no-call, EachLeaves, Claim}
 use Rattle.tally.proofs.Energies.{for-both, mean-at-most}
@@ -51,10 +51,10 @@ mean-within m k l e sound b alike =
 
 -- a fresh meter beside a fresh tally
 fresh-alike : Alike freshStream freshStreamTally
-fresh-alike = record { inForce = nothing; pair = refl; volume = refl; energy = for-both (AlikeEnergy freshStream freshStreamTally) none none }
+fresh-alike = record { inForce = nothing; pair = refl; volume = refl; energy = for-both (AlikeEnergy freshStream freshStreamTally) (none perMJ (omega arith)) (none perMJ (omega arith)); mass = none perKg (omega arith) }
   where
-    none : AlikeRegister perMJ 0 nothingBooked noAccount
-    none = record { rest = omega arith; amount = refl; within = omega arith }
+    none : (u : ℕ) → 0 < u → AlikeRegister u 0 nothingBooked noAccount
+    none u some = record { rest = some; amount = omega arith; within = omega arith }
 
 fresh-linked : Linked freshMeter freshTally
 fresh-linked =
@@ -107,6 +107,7 @@ demand3 m₀ m cs rs made ran =
             no-mean = λ e x got p. first (step m t (r .linked) (by-mean e k x got) .answers) ∙ rw (le-ltb lastStream k b, eq-eqb (l .volume) 0 p);
             energy-within = λ e. a .energy e .within;
             mean-within = λ e. mean-within m k l e (r .linked .sound) b a;
+            mass-within = a .mass .within;
             inForce = a .inForce;
           };
       analyses = λ bs. analyses bs freshTally (r .answers);

@@ -1,5 +1,5 @@
--- The cases K1 to K10 of document 01, and a computed one of the inferior energy, as one list, and one test over the definitions that
--- computes to true over the whole list.
+-- The cases K1 to K10 of document 01, and a computed one of the inferior energy and the mass, as one list, and one test over the definitions
+-- that computes to true over the whole list. Values per kilogram stand in crates/properties/specs/Cases.antt.
 use mathlib.Core.Path.{_≡_}
 use mathlib.Core.Bool.{Bool, true, _&&_}
 use mathlib.Core.List.{List, [], _∷_}
@@ -46,13 +46,24 @@ abbrev pub eachNumber : List on-record.Case → List Case → List Case
 eachNumber [] more = more
 eachNumber (c ∷ cs) more = number c ∷ eachNumber cs more
 
--- K2's totals after 1,000 dm³: volume and superior energy are K9's, the inferior energy is computed
+-- K2's totals after 1,000 dm³: volume and superior energy are K9's, the inferior energy and the mass are computed; and after 2,000 dm³, where
+-- the rest of the mass has passed 10^11
 abbrev pub after1000 : Totals
 after1000 =
     record {
       volume = 1000;
       superior = record { whole = 37; rest = 781616000 };
       inferior = record { whole = 34; rest = 15574000 };
+      mass = record { whole = 0; rest = 67985382000 };
+    }
+
+abbrev pub after2000 : Totals
+after2000 =
+    record {
+      volume = 2000;
+      superior = record { whole = 75; rest = 563232000 };
+      inferior = record { whole = 68; rest = 31148000 };
+      mass = record { whole = 1; rest = 35970764000 };
     }
 
 abbrev pub cases : List Case
@@ -74,14 +85,16 @@ cases =
     ∷ (on 15 totals, accepted (totalsAre after1000))
     ∷ (on 15 (mean inferior), accepted (meanIs 34015574))
     ∷ (on 16 (mean inferior), refused 13)
-    ∷ [])  -- computed: K2's inferior energy and its mean, with 18 before the volume and 13 past the last stream
+    ∷ (on 15 (metering 1000), accepted done)
+    ∷ (on 15 totals, accepted (totalsAre after2000))
+    ∷ [])  -- computed: K2's inferior energy, its mean and the mass, with 18 before the volume and 13 past the last stream
     ∷ rule (record { line = 23; place = 0; superior = 2700200; inferior = 2524100; twice = 352200; atoms = 8; water = 44016; product = 352128 })  -- K10
     ∷ [])
 
 -- the same answer: the number of a refusal, or the figures that are given
 abbrev pub figuresOf : Given → List ℕ
 figuresOf done = []
-figuresOf (totalsAre t) = t .volume ∷ t .superior .whole ∷ t .superior .rest ∷ t .inferior .whole ∷ t .inferior .rest ∷ []
+figuresOf (totalsAre t) = t .volume ∷ t .superior .whole ∷ t .superior .rest ∷ t .inferior .whole ∷ t .inferior .rest ∷ t .mass .whole ∷ t .mass .rest ∷ []
 figuresOf (meanIs x) = x ∷ []
 
 abbrev pub sameAnswer : Answer → Answer → Bool

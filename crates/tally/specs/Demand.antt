@@ -57,7 +57,7 @@ pub data SameInForce : InForce → Option (List ℕ) → Type 0 where
   known : (bs : List ℕ) (gas : Gas) → gas .combustion ≡ combustionIn bs → gas .metering ≡ meteringIn bs →
       accepted (numbers (gas .properties)) ≡ propertiesOf bs → SameInForce (Known gas) (some bs)
 
--- what is booked is within 2 units per dm³ of V from what is exact: of energy 2 mJ per dm³
+-- what is booked is within 2 units per dm³ of V from what is exact: of energy 2 mJ, of mass 2 × 10^-11 kg per dm³
 abbrev pub AccountWithin : ℕ → Account → Type 0
 AccountWithin v a = Within (whole (2 * v)) (a .booked) (a .exact)
 
@@ -70,13 +70,15 @@ pub record MeanWithin (v : ℕ) (a : Account) : Type 0 where
 pub record StreamDemand (k : ℕ) (s : StreamTally) (cs : List Call) (rs : List Answer) (m : Meter) : Type 0 where
   -- V is the sum of the accepted volumes
   pub volume : s .volume ≡ acceptedVolume k cs rs
-  -- a reading of totals made then answers V, and each E as whole MJ and rest
+  -- a reading of totals made then answers V, and the E of each energy and of the mass in two parts
   pub totals : (r : TotalsAnswer) → TotalsReturns m k r → totalsAnswer r ≡ accepted (givenBy totals s)
   -- of each energy, a reading of the mean made then answers near(E / V), or 18 where V is 0, and E and the mean are within their distances
   pub mean : (e : Energy) (r : MeanAnswer) → MeanReturns e m k r → 0 < s .volume → meanAnswer r ≡ accepted (givenBy (mean e) s)
   pub no-mean : (e : Energy) (r : MeanAnswer) → MeanReturns e m k r → s .volume ≡ 0 → meanAnswer r ≡ refused 18
   pub energy-within : (e : Energy) → AccountWithin (s .volume) (accountOf e s)
   pub mean-within : (e : Energy) → MeanWithin (s .volume) (accountOf e s)
+  -- the mass is within its distance
+  pub mass-within : AccountWithin (s .volume) (s .mass)
   pub inForce : SameInForce (streamAt m k .analysis) (s .inForce)
 
 -- what the contracts require of a meter, with any other arguments

@@ -59,6 +59,7 @@ totalsPut t =
       volume = getD t 0 0;
       superior = record { whole = getD t 1 0; rest = getD t 2 0 };
       inferior = record { whole = getD t 3 0; rest = getD t 4 0 };
+      mass = record { whole = getD t 5 0; rest = getD t 6 0 };
     })
 
 -- one call of a function on words: the number 0 says that it was accepted

@@ -62,7 +62,14 @@ abbrev pub partsGiven : Register → Parts
 partsGiven e = record { whole = e .whole; rest = e .rest }
 
 abbrev pub totalsGiven : StreamTotals → Given
-totalsGiven t = totalsAre (record { volume = t .volume; superior = partsGiven (t .superior); inferior = partsGiven (t .inferior) })
+totalsGiven t =
+    totalsAre
+    (record {
+      volume = t .volume;
+      superior = partsGiven (t .superior);
+      inferior = partsGiven (t .inferior);
+      mass = partsGiven (t .mass);
+    })
 
 abbrev pub totalsAnswer : TotalsAnswer → Answer
 totalsAnswer r = mapped totalsGiven (totalsMeaning r)

@@ -11,10 +11,11 @@ use Rattle.rounding.specs.Fraction.{Fraction, whole, plus, times}
 use Rattle.records.specs.Order.{Order, Outcome, firstOf, decided, otherwise}
 use Rattle.records.specs.Format.{combustionIn, meteringIn, contentsIn}
 use Rattle.records.specs.Conditions.{recordOrder}
-use Rattle.properties.specs.Chain.{Hs, Hi}
+use Rattle.properties.specs.Chain.{Hs, Hi, rho}
 use Rattle.properties.specs.Unrounded as unrounded
 
--- the last stream; the most that one metering call adds, and that a volume total comes to, in dm³; mJ in 1 MJ
+-- the last stream; the most that one metering call adds, and that a volume total comes to, in dm³; mJ in 1 MJ, and 10^-11 kg
+-- in 1 kg
 abbrev pub lastStream : ℕ
 lastStream = 15
 
@@ -26,6 +27,9 @@ mostTotal = 999999999999
 
 abbrev pub perMJ : ℕ
 perMJ = 1000000000
+
+abbrev pub perKg : ℕ
+perKg = 100000000000
 
 -- the energies of a stream: by Hs, and by Hi
 pub data Energy : Type 0 where
@@ -53,11 +57,12 @@ pub record Parts : Type 0 where
   pub whole : ℕ
   pub rest : ℕ
 
--- the totals of a stream: the volume in dm³, and each energy as whole MJ and a rest in mJ
+-- the totals of a stream: the volume in dm³, each energy as whole MJ and a rest in mJ, and the mass as whole kg and a rest in 10^-11 kg
 pub record Totals : Type 0 where
   pub volume : ℕ
   pub superior : Parts
   pub inferior : Parts
+  pub mass : Parts
 
 -- what an accepted call gives: an analysis or a metering only that it is done, a reading the totals, or a mean in J/m³
 pub data Given : Type 0 where
@@ -69,7 +74,7 @@ pub data Given : Type 0 where
 abbrev pub Answer : Type 0
 Answer = Outcome Given
 
--- what a stream took, as booked and exact: of energy in mJ these are E and X
+-- what a stream took, as booked and exact: of energy in mJ, and of mass in 10^-11 kg, these are E and X
 pub record Account : Type 0 where
   pub booked : ℕ
   pub exact : Fraction
@@ -83,13 +88,14 @@ abbrev pub grown : ℕ → ℕ → Fraction → Account → Account
 grown v h x a = record { booked = a .booked + v * h; exact = plus (a .exact) (times v x) }
 
 -- what the tally keeps for a stream: the record in force, the pair (combustion, metering), the volume V in dm³, and an E and an X for
--- each energy
+-- each energy and for the mass
 pub record StreamTally : Type 0 where
   pub inForce : Option (List ℕ)
   pub pair : Option (ℕ × ℕ)
   pub volume : ℕ
   pub superior : Account
   pub inferior : Account
+  pub mass : Account
 
 abbrev pub accountOf : Energy → StreamTally → Account
 accountOf superior s = s .superior
@@ -100,7 +106,7 @@ abbrev pub noAccount : Account
 noAccount = record { booked = 0; exact = whole 0 }
 
 abbrev pub freshStreamTally : StreamTally
-freshStreamTally = record { inForce = none; pair = none; volume = 0; superior = noAccount; inferior = noAccount }
+freshStreamTally = record { inForce = none; pair = none; volume = 0; superior = noAccount; inferior = noAccount; mass = noAccount }
 
 -- the streams 0 to 15
 pub record Tally : Type 0 where
@@ -152,7 +158,7 @@ orderOf k totals s = (13, aboveLast k) ∷ []
 orderOf k (mean e) s = (13, aboveLast k) ∷ (18, noVolume (s .volume)) ∷ []
 
 -- an accepted volume v: V grows by v, the superior E by v × Hs and its X by v × the unrounded Hs, the inferior ones by v × Hi and v × the
--- unrounded Hi, all of the record in force; with no record, 16 has refused it
+-- unrounded Hi, those of the mass by v × rho and v × the unrounded rho, all of the record in force; with no record, 16 has refused it
 abbrev pub meteredBy : Option (List ℕ) → ℕ → StreamTally → StreamTally
 meteredBy none v s = s
 meteredBy (some bs) v s =
@@ -162,6 +168,7 @@ meteredBy (some bs) v s =
       volume = s .volume + v;
       superior = grown v (Hs (contentsIn bs)) (unrounded.Hs (contentsIn bs)) (s .superior);
       inferior = grown v (Hi (contentsIn bs)) (unrounded.Hi (contentsIn bs)) (s .inferior);
+      mass = grown v (rho (contentsIn bs)) (unrounded.rho (contentsIn bs)) (s .mass);
     }
 
 -- what an accepted call leaves: an analysis brings its record into force, and its pair is the stream's; a reading changes nothing
@@ -173,16 +180,25 @@ leftBy (analysis bs) s =
       volume = s .volume;
       superior = s .superior;
       inferior = s .inferior;
+      mass = s .mass;
     }
 leftBy (metering v) s = meteredBy (s .inForce) v s
 leftBy totals s = s
 leftBy (mean e) s = s
 
--- what an accepted call answers: totals give V, and each E as whole MJ and rest; a mean gives near(E / V)
+-- what an accepted call answers: totals give V, the E of each energy as whole MJ and rest, and that of the mass as whole kg and rest; a mean
+-- gives near(E / V)
 abbrev pub givenBy : Ask → StreamTally → Given
 givenBy (analysis bs) s = done
 givenBy (metering v) s = done
-givenBy totals s = totalsAre (record { volume = s .volume; superior = partsOf perMJ (s .superior); inferior = partsOf perMJ (s .inferior) })
+givenBy totals s =
+    totalsAre
+    (record {
+      volume = s .volume;
+      superior = partsOf perMJ (s .superior);
+      inferior = partsOf perMJ (s .inferior);
+      mass = partsOf perKg (s .mass);
+    })
 givenBy (mean e) s = meanIs (near (accountOf e s .booked) (s .volume))
 
 -- one call: refused by the first condition that holds, and then the tally stays as it is, or accepted
