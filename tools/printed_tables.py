@@ -69,7 +69,7 @@ def per_cubic_metre(line, kind, pair):
 
 
 def per_kilogram(line, kind, t):
-    return 10 * HEAT[f"{kind}_{t}"][line], MOLAR_MASS[line]
+    return near(HEAT[f"{kind}_{t}"][line] * 10**6, MOLAR_MASS[line]), 10**5
 
 
 # table D.1: line, M, H, s, and their products with x
@@ -110,7 +110,7 @@ def annex_d():
         ("table D.1, total x H", "919.09", xH, 10**9),
         ("table D.1, total x s", "0.04785", xs, 10**10),
         ("D.1, ideal H per mole", "919.09", xH, 10**9),
-        ("D.2, ideal H per kilogram", "52.586 52.59", 10 * xH, xM),
+        ("D.2, ideal H per kilogram", "52.586 52.59", near(xH * 10**6, xM), 10**5),
         ("D.2, by formula (7)", "52.59", parts_by_mass, 10**12),
         ("D.3, ideal H", "38.870 38.87", ideal, 10**6),
         ("D.3, by formula (9)", "38.87", parts_by_volume, 10**12),

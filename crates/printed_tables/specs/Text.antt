@@ -4,11 +4,13 @@ use Prim.Native.Nat.{ℕ, _*_, _/_, _%_, _^_}
 use lib.ListN.{getD}
 use Rattle.rounding.specs.Near.{near}
 use Rattle.properties.specs.Chain.{D, Six, idealCalorific, idealDensity, idealRelative, rootOf, wobbe}
+use Rattle.properties.specs.PerKilogram.{perKilogram}
 use Rattle.printed_tables.specs.Gas.{gas, gasTotals}
 
--- the ideal values: H per kilogram, J/kg, and per cubic metre, relative density, with 1 for the compression factor of air, density and W
+-- the ideal values: H per kilogram, unit 10 J/kg, and per cubic metre, relative density, with 1 for the compression factor of air, density
+-- and W
 unfoldable pub idealHm : ℕ
-idealHm = near (10 ^ 7 * gasTotals .h) (gasTotals .m)
+idealHm = perKilogram (gasTotals .h) (gasTotals .m)
 
 unfoldable pub idealH : ℕ
 idealH = idealCalorific (gasTotals .h) (D gas)
@@ -35,7 +37,7 @@ textValues p =
 -- how many of a value's unit make one in the last printed digit
 abbrev pub textSteps : List ℕ
 textSteps =
-    10 ^ 2 ∷ 10 ^ 7 ∷ 10 ^ 7 ∷ 10 ^ 5 ∷ 10 ^ 7 ∷ 10 ^ 3 ∷ 10 ^ 4 ∷ 10 ^ 10
+    10 ^ 2 ∷ 10 ^ 7 ∷ 10 ^ 7 ∷ 10 ^ 5 ∷ 10 ^ 7 ∷ 10 ^ 2 ∷ 10 ^ 3 ∷ 10 ^ 10
     ∷ 10 ^ 3 ∷ 10 ^ 4 ∷ 10 ^ 10 ∷ 10 ^ 5 ∷ 10 ^ 4 ∷ 10 ^ 5 ∷ 10 ^ 3 ∷ 10 ^ 4
     ∷ 10 ^ 3 ∷ 10 ^ 4 ∷ 10 ^ 3 ∷ 10 ^ 4 ∷ 10 ^ 3 ∷ 10 ^ 4 ∷ 10 ^ 3 ∷ 10 ^ 4 ∷ 10 ^ 3 ∷ 10 ^ 4 ∷ 10 ^ 3 ∷ 10 ^ 4 ∷ 10 ^ 4
     ∷ []

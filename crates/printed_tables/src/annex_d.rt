@@ -50,13 +50,13 @@ pub fn print_name(k: usize) -> bool {
     }
 }
 
-// The values whose figures are printed, from the sums and the properties of the gas: h_m is the ideal calorific value per kilogram, J/kg,
-// and the ideal relative density has 1 for the compression factor of air.
+// The values whose figures are printed, from the sums and the properties of the gas: h_m is the calorific value per kilogram, unit
+// 10 J/kg, and the ideal relative density has 1 for the compression factor of air.
 fn values(totals: gas::Totals, p: Properties) -> Values
     requires { ⌜ totals ≡ gasTotals ⌝ }
     ensures { λ r. ⌜ r ≡ textValues (numbers p) ⌝ }
 {
-    let h_m = rounding::nearest(10000000 * totals.h, totals.m);
+    let h_m = steps::per_kilogram(totals.h, totals.m).value();
     let h_0 = steps::ideal_calorific_value(totals.h, 15);
     let d_0 = steps::ideal_relative_density(totals.m, 100000);
     let rho_0 = steps::ideal_density(totals.m, 15);

@@ -1,6 +1,6 @@
 // Runs the compiled calls of the meter that its input lists and prints what comes back: K9 of document 01, each refusal from 13 to 18,
-// some where a later condition of the order holds too, the carry from the rest to the whole MJ, two gases on one stream, and a stream
-// that is full.
+// some where a later condition of the order holds too, the carry from the rest to the whole MJ and kg, two gases on one stream, and a
+// stream that is full.
 //
 // rust/examples/expected.rs prints the input, from the lists of rust/tests/calls. A call is a letter, the lengths of a title and of a
 // record (2 bytes each), a stream and a volume in dm³ (8 bytes each, least significant first), the title, and the record. The letter
@@ -49,10 +49,11 @@ fn fill(m: Meter, stream: usize) -> Meter
     filled
 }
 
-fn print_energy(name: &[u8], energy: Register) {
+// A register's name, its whole part and its rest, each with its unit.
+fn print_register(name: &[u8], register: Register, whole: &[u8], rest: &[u8]) {
     report::print_text(name);
-    report::print_amount(energy.whole, b" MJ ");
-    report::print_amount(energy.rest, b" mJ");
+    report::print_amount(register.whole, whole);
+    report::print_amount(register.rest, rest);
 }
 
 fn print_totals(stream: usize, answer: TotalsAnswer) {
@@ -61,9 +62,9 @@ fn print_totals(stream: usize, answer: TotalsAnswer) {
         TotalsAnswer::Accepted(t) => {
             report::print_text(b": ");
             report::print_amount(t.volume, b" dm3");
-            print_energy(b", superior ", t.superior);
-            print_energy(b", inferior ", t.inferior);
-            report::print_text(b"\n");
+            print_register(b", superior ", t.superior, b" MJ ", b" mJ");
+            print_register(b", inferior ", t.inferior, b" MJ ", b" mJ");
+            print_register(b", mass ", t.mass, b" kg ", b" e-11 kg\n");
         }
         TotalsAnswer::Refused(number) => print_refused(number),
     }

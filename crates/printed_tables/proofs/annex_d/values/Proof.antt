@@ -23,14 +23,14 @@ returns c =
     let v = c .before .before .before .before .before in
     let b = v .before .before .before .before in
     let n = b .before .before .before in
-    rw (c .value6 .ensures, c .before .value5 .ensures, c .before .before .value4 .ensures, c .before .before .before .value3 .ensures, c .before .before .before .before .value2 .ensures, v .value .ensures, v .before .wobbe-index .ensures, v .before .before .new2 .ensures, v .before .before .before .new .ensures, h-is b, d-is b, b .ideal-density .ensures, n .nearest .ensures, n .before .before .pre)
+    rw (c .value7 .ensures, c .before .value6 .ensures, c .before .before .value5 .ensures, c .before .before .before .value4 .ensures, c .before .before .before .before .value3 .ensures, v .value2 .ensures, v .before .wobbe-index .ensures, v .before .before .new2 .ensures, v .before .before .before .new .ensures, h-is b, d-is b, b .ideal-density .ensures, n .value .ensures, n .before .per-kilogram .ensures, n .before .before .pre)
 
 pub values-spec : {M : Type 1} → statement M
 values-spec =
     tie.close
     (tie.spec
-    (λ c. rw (c .before .pre) (record { fits = omega (arith, h-value) }))
-    (λ c κs. rw (c .before .pre) (omega (arith, m-value)))
+    (λ c κs. rw (c .pre) (omega (arith, h-value), omega (arith, m-value), omega (arith, h-value, m-value)))
+    (λ c κs. search needs)
     (λ c κs. rw (c .before .before .pre) (omega (arith, h-value)))
     (λ c κs. rw (c .before .before .before .pre) (omega (arith, m-value), omega arith))
     (λ c κs. rw (c .before .before .before .before .pre) (omega (arith, m-value)))
