@@ -161,13 +161,7 @@ fn holds_mass(mass: Register, volume: u64) -> bool
     requires { ⌜ volume ≤ mostTotal ⌝ }
     ensures { λ r. ⌜ Tells r (SoundMass volume mass) ⌝ }
 {
-    holds_register(
-        mass,
-        meter::PER_KG,
-        volume,
-        Density::FLOOR,
-        Density::BOUND,
-    )
+    holds_register(mass, meter::PER_KG, volume, Density::FLOOR, Density::BOUND)
 }
 
 // Whether the totals in a row are those of a stream.
