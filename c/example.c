@@ -1,5 +1,5 @@
 /* Meters methane on a stream and prints its totals and both means; then writes the record of the gas of annex D of ISO 6976:1995, prints
- * its properties, and reads it again.
+ * its properties and its calorific values per kilogram, and reads it again.
  *
  *     rt staticlib loonstool
  *     cc -Iinclude c/example.c target/staticlib/libloonstool.a -o target/example && target/example
@@ -26,6 +26,7 @@ static void print_readings(const struct loonstool_totals *t, uint64_t mean, uint
     printf("volume %" PRIu64 " dm3\n", t->volume);
     printf("superior energy %" PRIu64 " MJ %" PRIu64 " mJ\n", t->superior_mj, t->superior_rest);
     printf("inferior energy %" PRIu64 " MJ %" PRIu64 " mJ\n", t->inferior_mj, t->inferior_rest);
+    printf("mass %" PRIu64 " kg %" PRIu64 " e-11 kg\n", t->mass_kg, t->mass_rest);
     printf("mean %" PRIu64 " J/m3\nmean inferior %" PRIu64 " J/m3\n", mean, mean_inferior);
 }
 
@@ -60,6 +61,22 @@ static int meter_methane(void)
     return 0;
 }
 
+/* The properties of a record and its calorific values per kilogram. */
+static int calculate(const uint8_t *record, size_t length)
+{
+    struct loonstool_properties properties;
+    struct loonstool_per_kilogram values;
+    uint8_t number = loonstool_properties_of(record, length, &properties);
+    if (number != LOONSTOOL_ACCEPTED)
+        return refused("loonstool_properties_of", number);
+    print_properties(&properties);
+    number = loonstool_per_kilogram(record, length, &values);
+    if (number != LOONSTOOL_ACCEPTED)
+        return refused("loonstool_per_kilogram", number);
+    printf("per kilogram: superior %" PRIu64 ", inferior %" PRIu64 ", unit 10 J/kg\n", values.superior, values.inferior);
+    return 0;
+}
+
 static int write_and_read(void)
 {
     const uint8_t lines[8] = {1, 2, 3, 4, 5, 6, 52, 54};
@@ -68,12 +85,8 @@ static int write_and_read(void)
     uint8_t number = loonstool_write(15, 15, lines, 8, fractions, 8, record, sizeof record);
     if (number != LOONSTOOL_ACCEPTED)
         return refused("loonstool_write", number);
-
-    struct loonstool_properties properties;
-    number = loonstool_properties_of(record, sizeof record, &properties);
-    if (number != LOONSTOOL_ACCEPTED)
-        return refused("loonstool_properties_of", number);
-    print_properties(&properties);
+    if (calculate(record, sizeof record) != 0)
+        return 1;
 
     uint8_t combustion, metering, read_lines[LOONSTOOL_LINES];
     uint32_t read_fractions[LOONSTOOL_LINES];

@@ -12,6 +12,7 @@ enum { STACK = 65536, BELOW = 128, BYTES = LOONSTOOL_RECORD_BYTES(LOONSTOOL_LINE
 
 static _Alignas(16) uint8_t stack[STACK];
 static struct loonstool_properties properties;
+static struct loonstool_per_kilogram values;
 static uint8_t lines[LOONSTOOL_LINES], read_lines[LOONSTOOL_LINES], bytes[BYTES], combustion, metering;
 static uint32_t fractions[LOONSTOOL_LINES], read_fractions[LOONSTOOL_LINES];
 static size_t count;
@@ -27,6 +28,11 @@ static void nothing(void)
 static void properties_of(void)
 {
     number = loonstool_properties_of(bytes, BYTES, &properties);
+}
+
+static void per_kilogram(void)
+{
+    number = loonstool_per_kilogram(bytes, BYTES, &values);
 }
 
 static void read_record(void)
@@ -120,6 +126,7 @@ int main(void)
     int wrong = above("loonstool_write", write_record, LOONSTOOL_STACK_WRITE);
     wrong |= above("loonstool_read", read_record, LOONSTOOL_STACK_READ);
     wrong |= above("loonstool_properties_of", properties_of, LOONSTOOL_STACK_PROPERTIES_OF);
+    wrong |= above("loonstool_per_kilogram", per_kilogram, LOONSTOOL_STACK_PER_KILOGRAM);
     wrong |= above("loonstool_meter_fresh", meter_fresh, LOONSTOOL_STACK_METER_FRESH);
     wrong |= above("loonstool_meter_analysis", meter_analysis, LOONSTOOL_STACK_METER_ANALYSIS);
     wrong |= above("loonstool_meter_metering", meter_metering, LOONSTOOL_STACK_METER_METERING);

@@ -1,5 +1,5 @@
 /* Natural gas metering by ISO 6976:1995: the functions of target/staticlib/libloonstool.a, which `rt staticlib loonstool` writes. They are
- * a meter of sixteen streams, the properties of an analysis record, and records read and written.
+ * a meter of sixteen streams, the properties of an analysis record, its calorific values per kilogram, and records read and written.
  *
  * Each function takes whatever numbers and bytes it is given, and gives LOONSTOOL_ACCEPTED or the number of its refusal; after a refusal
  * the caller's memory is as it was. Two refuse nothing: loonstool_meter_fresh, and loonstool_meter_check, which gives true or false. No
@@ -32,10 +32,10 @@
  * Words that were restored go through loonstool_meter_check. It refuses a property above its ceiling or below its floor, which no accepted
  * record's is, an Hi above Hs, a rho that differs by more than 5 units from d times the density of air, a Wobbe index that is not that of
  * Hs and d, a pair that is not permitted, a stream without an analysis that is not 0 everywhere, a volume total above 999,999,999,999 dm3,
- * and of each energy, superior and inferior, a rest of 10^9 mJ or more and an amount that the volume cannot have; and an inferior energy
- * above the superior one. It cannot find a damage after which all of this holds, as it may after a flipped bit of a volume total: that
- * takes a checksum. Words kept by one version of the library go into another where LOONSTOOL_STREAMS and LOONSTOOL_STREAM_WORDS are the
- * same; before an update to one with other numbers the totals are read out.
+ * of each energy, superior and inferior, a rest of 10^9 mJ or more, of the mass one of 10^11 x 10^-11 kg or more, and of each of the three
+ * an amount that the volume cannot have; and an inferior energy above the superior one. It cannot find a damage after which all of this
+ * holds, as it may after a flipped bit of a volume total: that takes a checksum. Words kept by one version of the library go into another
+ * where LOONSTOOL_STREAMS and LOONSTOOL_STREAM_WORDS are the same; before an update to one with other numbers the totals are read out.
  *
  * Power cuts: a call is several stores, in no order that is promised. A cut between them leaves neither the meter before the call nor the
  * one after it, but, for instance, a volume without its energies, which loonstool_meter_check need not find. So firmware keeps the meter
@@ -110,26 +110,29 @@ enum loonstool_number {
 #define LOONSTOOL_STACK_METER_MEAN 200
 #define LOONSTOOL_STACK_METER_MEAN_INFERIOR 200
 #define LOONSTOOL_STACK_PROPERTIES_OF 400
+#define LOONSTOOL_STACK_PER_KILOGRAM 400
 #define LOONSTOOL_STACK_READ 1000
 #define LOONSTOOL_STACK_WRITE 400
 
 /* The streams of a meter, 0 to 15, and the words that each has. */
 #define LOONSTOOL_STREAMS 16
-#define LOONSTOOL_STREAM_WORDS 14
+#define LOONSTOOL_STREAM_WORDS 16
 
 /* A meter. Its words are for the calls below alone, and to be saved and restored as they are. */
 struct loonstool_meter {
     uint64_t words[LOONSTOOL_STREAMS][LOONSTOOL_STREAM_WORDS];
 };
 
-/* The totals of a stream. Its energies are without rounding: the superior one, of Hs, is 10^9 x superior_mj + superior_rest mJ, and the
- * inferior one, of Hi, 10^9 x inferior_mj + inferior_rest mJ. */
+/* The totals of a stream. Its energies and its mass are without rounding: the superior energy, of Hs, is 10^9 x superior_mj + superior_rest
+ * mJ, the inferior one, of Hi, 10^9 x inferior_mj + inferior_rest mJ, and the mass, of rho, 10^11 x mass_kg + mass_rest, unit 10^-11 kg. */
 struct loonstool_totals {
     uint64_t volume;        /* dm3, never above 999,999,999,999 */
     uint64_t superior_mj;   /* whole MJ of the superior energy */
     uint64_t superior_rest; /* mJ, below 1,000,000,000 */
     uint64_t inferior_mj;   /* whole MJ of the inferior energy, which is never above the superior one */
     uint64_t inferior_rest; /* mJ, below 1,000,000,000 */
+    uint64_t mass_kg;       /* whole kg of the mass */
+    uint64_t mass_rest;     /* unit 10^-11 kg, below 100,000,000,000 */
 };
 
 /* Makes a fresh meter: no stream has an analysis, all totals are 0. */
@@ -144,8 +147,8 @@ bool loonstool_meter_check(const struct loonstool_meter *m);
 LOONSTOOL_MUST_USE
 uint8_t loonstool_meter_analysis(struct loonstool_meter *m, size_t stream, const uint8_t *bytes, size_t length);
 
-/* Adds a volume in dm3, at most 10,000,000, to the volume total of a stream, volume x Hs of the record in force to its superior energy, and
- * volume x Hi to its inferior energy. Refused by 13, 15, 16 and 17, tried in that order. */
+/* Adds a volume in dm3, at most 10,000,000, to the volume total of a stream, volume x Hs of the record in force to its superior energy,
+ * volume x Hi to its inferior energy, and volume x rho to its mass. Refused by 13, 15, 16 and 17, tried in that order. */
 LOONSTOOL_MUST_USE
 uint8_t loonstool_meter_metering(struct loonstool_meter *m, size_t stream, uint64_t volume);
 
@@ -175,6 +178,17 @@ struct loonstool_properties {
 /* The properties of a record of `length` bytes. Refused by 1 to 12. */
 LOONSTOOL_MUST_USE
 uint8_t loonstool_properties_of(const uint8_t *bytes, size_t length, struct loonstool_properties *properties);
+
+/* The calorific values per kilogram. Neither passes the ceiling beside it. */
+struct loonstool_per_kilogram {
+    uint64_t superior; /* superior calorific value, unit 10 J/kg, at most 15,000,000 */
+    uint64_t inferior; /* inferior calorific value, unit 10 J/kg, at most 15,000,000 */
+};
+
+/* The calorific values per kilogram of a record of `length` bytes, to the nearest, halves upward. Of the record's two temperatures only the
+ * combustion one matters. Refused by 1 to 12. */
+LOONSTOOL_MUST_USE
+uint8_t loonstool_per_kilogram(const uint8_t *bytes, size_t length, struct loonstool_per_kilogram *values);
 
 /* Reads a record of `length` bytes: the pair of temperatures in degrees Celsius, the number of entries, and their line numbers and mole
  * fractions in ppm. It fills all LOONSTOOL_LINES places of both arrays, with 0 past the entries. Refused by 1 to 12. */
