@@ -13,7 +13,8 @@
 #include "loonstool.h"
 
 _Static_assert(sizeof(struct loonstool_properties) == 6 * 8, "the library fills six numbers of 64 bits");
-_Static_assert(sizeof(struct loonstool_totals) == 5 * 8, "the library fills five numbers of 64 bits");
+_Static_assert(sizeof(struct loonstool_per_kilogram) == 2 * 8, "the library fills two numbers of 64 bits");
+_Static_assert(sizeof(struct loonstool_totals) == 7 * 8, "the library fills seven numbers of 64 bits");
 
 __extension__ typedef unsigned __int128 wide;
 
@@ -21,21 +22,34 @@ enum { K1_BYTES = LOONSTOOL_RECORD_BYTES(8), K2_BYTES = LOONSTOOL_RECORD_BYTES(1
 
 /* The words of a stream. */
 enum {
-    ANALYSED, COMBUSTION, METERING, Z, HS, HI, RHO, D, W, VOLUME, SUPERIOR_MJ, SUPERIOR_REST, INFERIOR_MJ, INFERIOR_REST, WORDS
+    ANALYSED, COMBUSTION, METERING, Z, HS, HI, RHO, D, W,
+    VOLUME, SUPERIOR_MJ, SUPERIOR_REST, INFERIOR_MJ, INFERIOR_REST, MASS_KG, MASS_REST,
+    WORDS
 };
 
 _Static_assert(WORDS == LOONSTOOL_STREAM_WORDS, "each word of a stream has a name");
 
 /* The highest that each word of a stream can be, and the lowest where it has an analysis. */
-static const uint64_t highest[WORDS] = {1,         25,        20,           1000000000,   250000000, 250000000,    510000000,
-                                        390000000, 470000000, 999999999999, 249999999999, 999999999, 249999999999, 999999999};
-static const uint64_t lowest[WORDS] = {1, 0, 0, 724000000, 16680000, 16680000, 33000000, 27590000, 3880000, 0, 0, 0, 0, 0};
+static const uint64_t highest[WORDS] = {
+    1, 25, 20, 1000000000, 250000000, 250000000, 510000000, 390000000, 470000000,
+    999999999999, 249999999999, 999999999, 249999999999, 999999999, 5099999999, 99999999999};
+static const uint64_t lowest[WORDS] = {1, 0, 0, 724000000, 16680000, 16680000, 33000000, 27590000, 3880000, 0, 0, 0, 0, 0, 0, 0};
 
-/* mJ in a MJ. */
-static const uint64_t megajoule = 1000000000;
+/* A register of a stream: the word with its wholes, after which that with its rest stands; the parts of the rest that make a whole, mJ or
+ * 10^-11 kg; and the word with the property that a volume is multiplied by. */
+struct meter_register {
+    size_t whole;
+    uint64_t parts;
+    size_t property;
+};
 
-/* Hs and Hi of methane at 15/15. */
-static const uint64_t methane_hs = 37781616, methane_hi = 34015574;
+enum { SUPERIOR, INFERIOR, MASS, REGISTERS };
+
+static const struct meter_register registers[REGISTERS] = {
+    {SUPERIOR_MJ, 1000000000, HS}, {INFERIOR_MJ, 1000000000, HI}, {MASS_KG, 100000000000, RHO}};
+
+/* Hs, Hi and rho of methane at 15/15. */
+static const uint64_t of_methane[REGISTERS] = {37781616, 34015574, 67985382};
 
 /* Both means, superior and inferior. */
 static __typeof__(loonstool_meter_mean) *const means[2] = {loonstool_meter_mean, loonstool_meter_mean_inferior};
@@ -43,11 +57,13 @@ static __typeof__(loonstool_meter_mean) *const means[2] = {loonstool_meter_mean,
 static const uint8_t pairs[6][2] = {{15, 15}, {0, 0}, {15, 0}, {25, 0}, {20, 20}, {25, 20}};
 
 static const struct loonstool_properties k1 = {997709976, 38959473, 35144879, 74087496, 60459367, 50105024};
+static const struct loonstool_per_kilogram k1_per_kilogram = {5258576, 4743699};
 
 /* What is lent to the calls, each at the end of a page of its own; for bytes, the end. */
 static uint8_t *lines;
 static uint32_t *fractions;
 static struct loonstool_properties *properties;
+static struct loonstool_per_kilogram *per_kilogram;
 static uint8_t *combustion, *metering, *read_lines;
 static uint32_t *read_fractions;
 static size_t *count;
@@ -65,7 +81,7 @@ struct part {
     size_t size;
 };
 
-enum { PARTS = 8 };
+enum { PARTS = 9 };
 static struct part filled[PARTS];
 
 static unsigned checks, failures, meters, damages;
@@ -157,6 +173,7 @@ static void expect_refused(const uint8_t *bytes, size_t length, uint8_t number, 
 {
     mark_filled();
     expect(loonstool_properties_of(bytes, length, properties) == number, what, length);
+    expect(loonstool_per_kilogram(bytes, length, per_kilogram) == number, what, length);
     expect(read_record(bytes, length) == number, what, length);
     expect(all_marked(), what, length);
     for (size_t stream = 0; stream < LOONSTOOL_STREAMS; stream++)
@@ -169,6 +186,8 @@ static void expect_k1(const uint8_t *bytes, const char *what, size_t at)
     mark_filled();
     expect(loonstool_properties_of(bytes, K1_BYTES, properties) == LOONSTOOL_ACCEPTED, what, at);
     expect(memcmp(properties, &k1, sizeof k1) == 0, what, at);
+    expect(loonstool_per_kilogram(bytes, K1_BYTES, per_kilogram) == LOONSTOOL_ACCEPTED, what, at);
+    expect(memcmp(per_kilogram, &k1_per_kilogram, sizeof k1_per_kilogram) == 0, what, at);
     expect(read_record(bytes, K1_BYTES) == LOONSTOOL_ACCEPTED, what, at);
     expect(*combustion == 15 && *metering == 15 && *count == 8, what, at);
     expect(memcmp(read_lines, lines, 8) == 0 && memcmp(read_fractions, fractions, 8 * 4) == 0, what, at);
@@ -305,6 +324,18 @@ static const uint8_t *methane_at(const uint8_t pair[2])
     return memcpy(bytes_end - K2_BYTES, k2, K2_BYTES);
 }
 
+/* Methane alone at each pair: h of the combustion temperature by m, to the nearest. */
+static void try_per_kilogram(void)
+{
+    const uint64_t mass = 160430, heats[6][2] = {{891560, 802690}, {892970, 802820}, {891560, 802690},
+                                                 {890630, 802600}, {891090, 802650}, {890630, 802600}};
+    for (size_t i = 0; i < 6; i++) {
+        const uint64_t superior = (2000000 * heats[i][0] + mass) / (2 * mass), inferior = (2000000 * heats[i][1] + mass) / (2 * mass);
+        expect(loonstool_per_kilogram(methane_at(pairs[i]), K2_BYTES, per_kilogram) == LOONSTOOL_ACCEPTED, "methane per kilogram", i);
+        expect(per_kilogram->superior == superior && per_kilogram->inferior == inferior, "methane per kilogram", i);
+    }
+}
+
 static void make_fresh(void)
 {
     memset(meter, 0xa5, sizeof *meter);
@@ -316,16 +347,18 @@ static void make_fresh(void)
 /* Totals and means of a stream that metered a volume of methane at 15/15; the meter may not be written meanwhile. */
 static void expect_readings(size_t stream, uint64_t volume)
 {
-    const uint64_t heats[2] = {methane_hs, methane_hi};
-    const wide superior = (wide)volume * methane_hs, inferior = (wide)volume * methane_hi;
-    const struct loonstool_totals right = {volume, (uint64_t)(superior / megajoule), (uint64_t)(superior % megajoule),
-                                           (uint64_t)(inferior / megajoule), (uint64_t)(inferior % megajoule)};
+    uint64_t right[1 + 2 * REGISTERS] = {volume};
+    for (size_t i = 0; i < REGISTERS; i++) {
+        const wide amount = (wide)volume * of_methane[i];
+        right[1 + 2 * i] = (uint64_t)(amount / registers[i].parts);
+        right[2 + 2 * i] = (uint64_t)(amount % registers[i].parts);
+    }
     let_write_meter(false);
     expect(loonstool_meter_totals(meter, stream, totals) == LOONSTOOL_ACCEPTED, "totals", stream);
-    expect(memcmp(totals, &right, sizeof right) == 0, "the totals of methane", stream);
+    expect(memcmp(totals, right, sizeof right) == 0, "the totals of methane", stream);
     for (size_t i = 0; i < 2; i++) {
         expect(means[i](meter, stream, mean) == LOONSTOOL_ACCEPTED, "a mean", stream);
-        expect(*mean == heats[i], "the mean of methane", stream);
+        expect(*mean == of_methane[i], "the mean of methane", stream);
     }
     let_write_meter(true);
     mark_filled();
@@ -439,24 +472,24 @@ static uint64_t by_air(uint64_t temperature, uint64_t d)
     return (uint64_t)((d * air + 500000000) / 1000000000);
 }
 
-/* An energy of a stream in mJ, whose rest follows its whole MJ. */
-static wide energy_of(const uint64_t *words, size_t mj)
+/* What a register of a stream holds, in the parts of its rest. */
+static wide amount_of(const uint64_t *words, const struct meter_register *r)
 {
-    return (wide)words[mj] * megajoule + words[mj + 1];
+    return (wide)words[r->whole] * r->parts + words[r->whole + 1];
 }
 
-/* Whether an energy lies between volume x the floor and volume x the ceiling of a calorific value. */
-static bool volume_has(const uint64_t *words, wide energy, size_t heat)
+/* Whether a register holds between volume x the floor and volume x the ceiling of its property. */
+static bool volume_has(const uint64_t *words, const struct meter_register *r)
 {
-    return energy >= (wide)words[VOLUME] * lowest[heat] && energy <= (wide)words[VOLUME] * highest[heat];
+    const wide amount = amount_of(words, r);
+    return amount >= (wide)words[VOLUME] * lowest[r->property] && amount <= (wide)words[VOLUME] * highest[r->property];
 }
 
 /* Whether the words of a stream can be those of a meter: each lies between its lowest and its highest, Hi is not above Hs, rho differs by
- * at most 5 from d times the density of air, W is the index of Hs and d, each energy is one that the volume can have, and the inferior one
- * is not above the superior one; without an analysis all are 0. */
+ * at most 5 from d times the density of air, W is the index of Hs and d, each energy and the mass is one that the volume can have, and the
+ * inferior energy is not above the superior one; without an analysis all are 0. */
 static bool can_be(const uint64_t *words)
 {
-    wide superior = energy_of(words, SUPERIOR_MJ), inferior = energy_of(words, INFERIOR_MJ);
     uint64_t density = by_air(words[METERING], words[D]);
     bool permitted = false;
     if (words[ANALYSED] == 0)
@@ -464,11 +497,13 @@ static bool can_be(const uint64_t *words)
     for (size_t i = 0; i < WORDS; i++)
         if (words[i] < lowest[i] || words[i] > highest[i])
             return false;
+    for (size_t i = 0; i < REGISTERS; i++)
+        if (!volume_has(words, &registers[i]))
+            return false;
     for (size_t i = 0; i < 6; i++)
         permitted |= words[COMBUSTION] == pairs[i][0] && words[METERING] == pairs[i][1];
     return permitted && words[HI] <= words[HS] && words[RHO] <= density + 5 && density <= words[RHO] + 5 &&
-           words[W] == index_of(words[HS], words[D]) && volume_has(words, superior, HS) && volume_has(words, inferior, HI) &&
-           inferior <= superior;
+           words[W] == index_of(words[HS], words[D]) && amount_of(words, &registers[INFERIOR]) <= amount_of(words, &registers[SUPERIOR]);
 }
 
 /* loonstool_meter_check gives what it should on the words as they are, and does not write to them. */
@@ -502,27 +537,46 @@ static void try_word(size_t stream, size_t word)
     words[word] = was;
 }
 
-/* Sets an energy of a stream, of which some MJ stand in the rest. */
-static void put_energy(uint64_t *words, size_t mj, wide energy, uint64_t in_rest)
+/* Amounts around the bounds of a register: the least and the most that a volume can have, and a whole between them, and one part and one
+ * whole more and less. */
+enum { AROUND = 15 };
+
+static wide around(const struct meter_register *r, uint64_t volume, size_t which)
 {
-    words[mj] = (uint64_t)(energy / megajoule) - in_rest;
-    words[mj + 1] = (uint64_t)(energy % megajoule) + in_rest * megajoule;
+    const wide low = (wide)volume * lowest[r->property], high = (wide)volume * highest[r->property];
+    const wide bounds[3] = {low, (low + high) / 2 / r->parts * r->parts, high};
+    const wide steps[5] = {0, 1, r->parts, -(wide)1, -(wide)r->parts};
+    return bounds[which / 5] + steps[which % 5];
 }
 
-/* Both energies of a stream, each with each: the least and the most that its volume can have, and a whole MJ between them, and one mJ and
- * one MJ more and less. So the inferior one also equals the superior one, and passes it by one mJ, within a MJ and from one to the next.
- * Then the same energies with a MJ in the rest. */
+/* Sets a register of a stream to one of these amounts, `in_rest` wholes of which stand in the rest. */
+static void put_around(uint64_t *words, const struct meter_register *r, size_t which, uint64_t in_rest)
+{
+    const wide amount = around(r, words[VOLUME], which);
+    words[r->whole] = (uint64_t)(amount / r->parts) - in_rest;
+    words[r->whole + 1] = (uint64_t)(amount % r->parts) + in_rest * r->parts;
+}
+
+/* Both energies of a stream around their bounds, which are the same, each with each. So the inferior one also equals the superior one, and
+ * passes it by one mJ, within a MJ and from one to the next. Then the same energies with a MJ in the rest. */
 static void try_energies(size_t stream)
 {
     uint64_t *words = meter->words[stream];
-    const wide between = (wide)words[SUPERIOR_MJ] * megajoule;
-    const wide bounds[3] = {(wide)words[VOLUME] * lowest[HS], between, (wide)words[VOLUME] * highest[HS]};
-    const wide steps[5] = {0, 1, megajoule, -(wide)1, -(wide)megajoule};
-    for (size_t i = 0; i < 15 * 15 * 4; i++) {
-        size_t superior = i / 4 / 15, inferior = i / 4 % 15;
-        put_energy(words, SUPERIOR_MJ, bounds[superior / 5] + steps[superior % 5], i / 2 % 2);
-        put_energy(words, INFERIOR_MJ, bounds[inferior / 5] + steps[inferior % 5], i % 2);
+    for (size_t i = 0; i < AROUND * AROUND * 4; i++) {
+        put_around(words, &registers[SUPERIOR], i / 4 / AROUND, i / 2 % 2);
+        put_around(words, &registers[INFERIOR], i / 4 % AROUND, i % 2);
         expect_check("energies at their bounds", stream);
+    }
+    memcpy(words, saved.words[stream], sizeof saved.words[stream]);
+}
+
+/* The mass of a stream around its bounds, and the same with a kg in the rest. */
+static void try_mass(size_t stream)
+{
+    uint64_t *words = meter->words[stream];
+    for (size_t i = 0; i < AROUND * 2; i++) {
+        put_around(words, &registers[MASS], i / 2, i % 2);
+        expect_check("the mass at its bounds", stream);
     }
     memcpy(words, saved.words[stream], sizeof saved.words[stream]);
 }
@@ -564,6 +618,7 @@ static void try_damages(void)
         for (size_t word = 0; word < WORDS; word++)
             try_word(stream, word);
         try_energies(stream);
+        try_mass(stream);
         try_limits(stream);
         try_pairs(stream);
     }
@@ -635,6 +690,7 @@ static void lend(void)
     filled[5] = at_page_end(LOONSTOOL_LINES * sizeof *read_fractions);
     filled[6] = at_page_end(sizeof *totals);
     filled[7] = at_page_end(sizeof *mean);
+    filled[8] = at_page_end(sizeof *per_kilogram);
     properties = filled[0].at;
     combustion = filled[1].at;
     metering = filled[2].at;
@@ -643,6 +699,7 @@ static void lend(void)
     read_fractions = filled[5].at;
     totals = filled[6].at;
     mean = filled[7].at;
+    per_kilogram = filled[8].at;
     meter = lent(sizeof *meter);
 }
 
@@ -659,6 +716,7 @@ int main(void)
     try_long(k1_bytes);
     try_numbers();
     try_pair();
+    try_per_kilogram();
     try_meter();
     printf("%u checks, %u failed\n", checks, failures);
     return failures != 0;
