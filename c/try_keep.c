@@ -234,7 +234,7 @@ static __typeof__(loonstool_meter_mean) *const means[2] = {loonstool_meter_mean,
 static void expect_readings(const struct keep *keep, const struct loonstool_meter *meter)
 {
     for (size_t stream = 0; stream <= LOONSTOOL_STREAMS; stream++) {
-        struct loonstool_totals totals = {0, 0, 0, 0, 0}, kept_totals = {0, 0, 0, 0, 0};
+        struct loonstool_totals totals = {0}, kept_totals = {0};
         uint64_t mean[2] = {0, 0}, kept_mean[2] = {0, 0};
         expect(keep_totals(keep, stream, &kept_totals) == loonstool_meter_totals(meter, stream, &totals), "the number of totals", stream);
         expect(memcmp(&kept_totals, &totals, sizeof totals) == 0, "totals", stream);
@@ -280,9 +280,10 @@ static void flip(size_t copy, size_t bit)
 static void expect_lost(struct keep *keep, const char *what, size_t at)
 {
     static const uint8_t methane[] = {'G', 'C', 'R', 1, 0, 15, 15, 1, 1, 0x40, 0x42, 0x0f, 0};
-    const struct loonstool_totals untouched = {16, 16, 16, 16, 16};
     uint64_t image[KEEP_WORDS], mean = 16;
-    struct loonstool_totals totals = untouched;
+    struct loonstool_totals totals, untouched;
+    memset(&untouched, 16, sizeof untouched);
+    totals = untouched;
     memcpy(image, kept, sizeof image);
     expect(keep_analysis(keep, 0, methane, sizeof methane) == KEEP_LOST, what, at);
     expect(keep_metering(keep, 0, 0) == KEEP_LOST, what, at);
