@@ -1,6 +1,6 @@
 //! Times 10,000,000 metering calls of the proved meter, an executable, against
 //! the same work with a plain meter, each in its own process. The proved meter
-//! is passed by value and returned, as document 01 has it, and has 1,152 bytes. So
+//! is passed by value and returned, as document 01 has it, and has 1,408 bytes. So
 //! is and has the plain one, once with a call for each volume and once inlined,
 //! where the compiler finds that it can write in place; and last the plain meter
 //! is changed in place.
@@ -96,8 +96,8 @@ fn by_call(mut meter: Meter) -> Meter {
     meter
 }
 
-/// A line for each stream with its number, its volume, and of the superior and
-/// of the inferior energy MJ, rest and mean.
+/// A line for each stream with its number, its volume, of the superior and of
+/// the inferior energy MJ, rest and mean, and of the mass kg and rest.
 fn readings(meter: &Meter) -> String {
     let mut text = String::new();
     for stream in 0..STREAMS {
@@ -107,11 +107,14 @@ fn readings(meter: &Meter) -> String {
             superior_rest,
             inferior_mj,
             inferior_rest,
+            mass_kg,
+            mass_rest,
         } = meter.totals(stream).expect("the stream exists");
         let mean = meter.mean(stream).expect("the volume is above 0");
         let mean_inferior = meter.mean_inferior(stream).expect("the volume is above 0");
         text += &format!("{stream} {volume} {superior_mj} {superior_rest} {mean} ");
-        text += &format!("{inferior_mj} {inferior_rest} {mean_inferior}\n");
+        text += &format!("{inferior_mj} {inferior_rest} {mean_inferior} ");
+        text += &format!("{mass_kg} {mass_rest}\n");
     }
     text
 }

@@ -1,4 +1,4 @@
-//! Prints, by the plain version, what `try_meter` of crates/ reads and prints, and the rows of `gases` in
+//! Prints, by the plain version, what `try_meter` of crates/ reads and prints, and the rows of `gases` and `massGases` in
 //! crates/properties/specs/Cases.antt. tools/try_library compares them with the files.
 //!
 //! `cargo run --offline --release --example expected -- try_meter/stdout`
@@ -10,6 +10,7 @@ mod cases;
 #[path = "../tests/plain/mod.rs"]
 mod plain;
 
+use cases::Gas;
 use std::io::Write;
 
 fn main() {
@@ -18,22 +19,32 @@ fn main() {
     let bytes: Vec<u8> = match asked.as_str() {
         "try_meter/stdin" => lists.flat_map(|list| calls::input(&list)).collect(),
         "try_meter/stdout" => String::from_iter(lists.map(|list| calls::printed(&list))).into(),
-        "gases" => gases().into(),
+        "gases" => rows(cases::further(), six).into(),
+        "kilograms" => rows(cases::by_mass(), per).into(),
         _ => panic!("expected: not a file of crates/ that this prints: '{asked}'"),
     };
     let written = std::io::stdout().write_all(&bytes);
     written.expect("standard output takes it");
 }
 
-/// The rows of `gases`.
-fn gases() -> String {
+/// The rows of a list of gases with what is answered to their records.
+fn rows(gases: Vec<(&str, Gas)>, answer: fn(&[u8]) -> String) -> String {
     let mut text = String::new();
-    for (name, gas) in cases::further() {
+    for (name, gas) in gases {
         let before = if text.is_empty() { "" } else { "∷ " };
-        let six = plain::properties_of(&gas.record()).expect("an accepted gas");
-        let six = plain::six(&six).map(|n| format!(" {n}")).concat();
         let (combustion, metering) = gas.pair;
-        text += &format!("    {before}({name} {combustion} {metering}, six{six})\n");
+        let answer = answer(&gas.record());
+        text += &format!("    {before}({name} {combustion} {metering}, {answer})\n");
     }
     text
+}
+
+fn six(record: &[u8]) -> String {
+    let six = plain::properties_of(record).expect("an accepted gas");
+    format!("six{}", plain::six(&six).map(|n| format!(" {n}")).concat())
+}
+
+fn per(record: &[u8]) -> String {
+    let values = plain::per_kilogram(record).expect("an accepted gas");
+    format!("per {} {}", values.superior, values.inferior)
 }

@@ -2,7 +2,7 @@
 //! repository, which also has the format of an analysis record and its limits). The library is for x86-64; what it asks of a program
 //! without an operating system (SSE switched on, `memcpy` and `memset`, 128 bytes below the stack pointer) the header says.
 //!
-//! A [`Meter`] adds up volume, superior energy and inferior energy of sixteen streams of natural gas:
+//! A [`Meter`] adds up volume, superior energy, inferior energy and mass of sixteen streams of natural gas:
 //!
 //! ```
 //! use loonstool::{Meter, Refusal};
@@ -18,12 +18,14 @@
 //! assert_eq!(totals.volume, 1_000); // dm³
 //! assert_eq!((totals.superior_mj, totals.superior_rest), (37, 781_616_000)); // MJ and mJ
 //! assert_eq!((totals.inferior_mj, totals.inferior_rest), (34, 15_574_000));
+//! assert_eq!((totals.mass_kg, totals.mass_rest), (0, 67_985_382_000)); // kg and 10^-11 kg
 //! assert_eq!(meter.mean(0)?, 37_781_616); // J/m³
 //! assert_eq!(meter.mean_inferior(0)?, 34_015_574);
 //! # Ok::<(), Refusal>(())
 //! ```
 //!
-//! [`properties_of`] gives the six properties of a record, [`read`] and [`write()`] take it apart and put it together:
+//! [`properties_of`] gives the six properties of a record and [`per_kilogram`] its calorific values per kilogram; [`read`] and
+//! [`write()`] take it apart and put it together:
 //!
 //! ```
 //! let lines = [1];
@@ -32,6 +34,7 @@
 //! let filled = loonstool::write(15, 15, &lines, &fractions, &mut buffer)?;
 //! let properties = loonstool::properties_of(&buffer[..filled])?;
 //! assert_eq!((properties.z, properties.hs), (998_001_910, 37_781_616));
+//! assert_eq!(loonstool::per_kilogram(&buffer[..filled])?.superior, 5_557_315); // 10 J/kg
 //! # Ok::<(), loonstool::Refusal>(())
 //! ```
 //!
@@ -106,6 +109,30 @@ impl Properties {
     };
 }
 
+/// The calorific values of a gas per kilogram. They depend on the combustion temperature alone of the two.
+#[derive(Debug, Clone, Copy, PartialEq, Eq)]
+#[repr(C)]
+pub struct PerKilogram {
+    /// Superior calorific value, unit 10 J/kg.
+    pub superior: u64,
+    /// Inferior calorific value, unit 10 J/kg.
+    pub inferior: u64,
+}
+
+// The library fills two numbers of 64 bits, in the header's order.
+const _: () = {
+    assert!(size_of::<PerKilogram>() == 16);
+    assert!(offset_of!(PerKilogram, superior) == 0 && offset_of!(PerKilogram, inferior) == 8);
+};
+
+impl PerKilogram {
+    /// The ceilings, which no value passes.
+    pub const CEILINGS: PerKilogram = PerKilogram {
+        superior: 15_000_000,
+        inferior: 15_000_000,
+    };
+}
+
 /// What a record says: the pair of temperatures in °C, and `count` entries. Past the entries stands 0.
 #[derive(Debug, Clone, Copy, PartialEq, Eq)]
 pub struct Analysis {
@@ -123,6 +150,8 @@ pub struct Analysis {
 
 extern "sysv64" {
     fn loonstool_properties_of(bytes: *const u8, length: usize, properties: *mut Properties) -> u8;
+
+    fn loonstool_per_kilogram(bytes: *const u8, length: usize, values: *mut PerKilogram) -> u8;
 
     fn loonstool_read(
         bytes: *const u8,
@@ -156,6 +185,18 @@ pub fn properties_of(bytes: &[u8]) -> Result<Properties, Refusal> {
     Refusal::unless_accepted(number)?;
     // SAFETY: an accepted call fills all six.
     Ok(unsafe { properties.assume_init() })
+}
+
+/// The calorific values of a record per kilogram. Refused by 1 to 12.
+#[inline]
+pub fn per_kilogram(bytes: &[u8]) -> Result<PerKilogram, Refusal> {
+    let mut values = MaybeUninit::uninit();
+    // SAFETY: the slice is valid for its length, and `values` is ours.
+    let number =
+        unsafe { loonstool_per_kilogram(bytes.as_ptr(), bytes.len(), values.as_mut_ptr()) };
+    Refusal::unless_accepted(number)?;
+    // SAFETY: an accepted call fills both.
+    Ok(unsafe { values.assume_init() })
 }
 
 /// Reads a record. Refused by 1 to 12.

@@ -7,7 +7,7 @@ use core::mem::{offset_of, size_of, MaybeUninit};
 pub const STREAMS: usize = 16;
 
 /// The words in which a meter keeps a stream.
-pub const STREAM_WORDS: usize = 14;
+pub const STREAM_WORDS: usize = 16;
 
 /// The words of a meter, to be saved and restored whole. What each of them is belongs to the library.
 pub type Words = [[u64; STREAM_WORDS]; STREAMS];
@@ -26,14 +26,19 @@ pub struct Totals {
     pub inferior_mj: u64,
     /// Inferior energy past the whole MJ, mJ, below 10^9.
     pub inferior_rest: u64,
+    /// Mass, whole kg.
+    pub mass_kg: u64,
+    /// Mass past the whole kg, unit 10^-11 kg, below 10^11.
+    pub mass_rest: u64,
 }
 
-// The library fills five numbers of 64 bits, in the header's order.
+// The library fills seven numbers of 64 bits, in the header's order.
 const _: () = {
-    assert!(size_of::<Totals>() == 40);
+    assert!(size_of::<Totals>() == 56);
     assert!(offset_of!(Totals, volume) == 0);
     assert!(offset_of!(Totals, superior_mj) == 8 && offset_of!(Totals, superior_rest) == 16);
     assert!(offset_of!(Totals, inferior_mj) == 24 && offset_of!(Totals, inferior_rest) == 32);
+    assert!(offset_of!(Totals, mass_kg) == 40 && offset_of!(Totals, mass_rest) == 48);
 };
 
 /// Words that hold no meter.
@@ -110,7 +115,7 @@ pub struct Meter {
 }
 
 impl Meter {
-    /// A meter whose streams have no analysis, volume 0 and both energies 0.
+    /// A meter whose streams have no analysis, and volume, both energies and mass 0.
     #[must_use]
     #[inline]
     pub fn new() -> Self {
@@ -126,8 +131,8 @@ impl Meter {
     /// of them, as it does of every meter: each stream has words of 0 alone, or a permitted pair, properties from
     /// [`FLOORS`](crate::Properties::FLOORS) to [`CEILINGS`](crate::Properties::CEILINGS) with Hi not above Hs, rho at most 5 units from d
     /// times the density of air at the metering temperature, and the Wobbe index that of Hs and d, a volume of at most 999,999,999,999 dm³,
-    /// of each energy a rest below 10^9 mJ and an amount that the volume can have at Hs, or Hi, between floor and ceiling, and an inferior
-    /// energy not above the superior one.
+    /// of each energy a rest below 10^9 mJ and of the mass one below a kg, of each an amount that the volume can have at Hs, Hi or rho
+    /// between floor and ceiling, and an inferior energy not above the superior one.
     #[inline]
     pub fn from_words(words: Words) -> Result<Self, NotAMeter> {
         // SAFETY: `words` is ours; the call takes whatever words they are.
@@ -155,8 +160,9 @@ impl Meter {
         Refusal::unless_accepted(number)
     }
 
-    /// Adds a volume in dm³ to a stream, and its energies without rounding: the volume times Hs of the analysis in force to the superior
-    /// one, the volume times Hi to the inferior one. Refused by 13, 15, 16 and 17, tried in that order.
+    /// Adds a volume in dm³ to a stream, and its energies and its mass without rounding: the volume times Hs of the analysis in force to
+    /// the superior energy, the volume times Hi to the inferior one, and the volume times rho to the mass. Refused by 13, 15, 16 and 17,
+    /// tried in that order.
     #[inline]
     pub fn metering(&mut self, stream: usize, volume: u64) -> Result<(), Refusal> {
         // SAFETY: the words are borrowed mutably, and hold a meter, as the field says.
@@ -164,14 +170,14 @@ impl Meter {
         Refusal::unless_accepted(number)
     }
 
-    /// The volume and both energies of a stream. Refused by 13.
+    /// The volume, both energies and the mass of a stream. Refused by 13.
     #[inline]
     pub fn totals(&self, stream: usize) -> Result<Totals, Refusal> {
         let mut totals = MaybeUninit::uninit();
         // SAFETY: the words are borrowed, and `totals` is ours.
         let number = unsafe { loonstool_meter_totals(&self.words, stream, totals.as_mut_ptr()) };
         Refusal::unless_accepted(number)?;
-        // SAFETY: an accepted call fills all five.
+        // SAFETY: an accepted call fills all seven.
         Ok(unsafe { totals.assume_init() })
     }
 

@@ -10,7 +10,8 @@ mod plain;
 mod records;
 
 use comparison::{hex, place, same, Answers, Comparison, Run};
-use loonstool::{Analysis, Properties, Refusal};
+use loonstool::{Analysis, PerKilogram, Properties, Refusal};
+use plain::properties::within_half;
 use records::{case, Draft, Limits, Random, WriterCall, PAIRS};
 use std::process::ExitCode;
 
@@ -20,14 +21,15 @@ const RECORDS: Comparison = Comparison {
     default: 1_000_000,
 };
 
-/// Refusals of reader and properties, and of the writer.
+/// Refusals of reader, properties and values per kilogram, and of the writer.
 const OF_RECORD: [u8; 12] = [1, 2, 3, 4, 5, 6, 7, 8, 9, 10, 11, 12];
 const OF_WRITER: [u8; 10] = [4, 5, 7, 8, 9, 10, 11, 12, 19, 20];
 
 /// The places of the calls in the counts.
 const PROPERTIES_OF: usize = 0;
-const READ: usize = 1;
-const WRITE: usize = 2;
+const PER_KILOGRAM: usize = 1;
+const READ: usize = 2;
+const WRITE: usize = 3;
 
 fn main() -> ExitCode {
     RECORDS.main(compare_all)
@@ -44,14 +46,16 @@ fn compare_all(run: &Run) -> Result<Vec<String>, String> {
         run.progress(number);
     }
     counts.print();
-    run.print_due("of each refusal of each call, each pair and each line");
+    run.print_due("of each refusal of each call, each pair, each line, and of records at two metering temperatures");
     Ok(counts.failures(run))
 }
 
 /// How often each answer, pair, line and limit occurred.
 struct Counts {
-    answers: Answers<3>,
+    answers: Answers<4>,
     pairs: [u64; 6],
+    /// Accepted records whose values per kilogram were compared with those at another metering temperature.
+    at_other: u64,
     lines: [u64; 56],
     limits: Limits,
 }
@@ -61,10 +65,12 @@ impl Counts {
         Self {
             answers: Answers::none([
                 ("properties_of", &OF_RECORD),
+                ("per_kilogram", &OF_RECORD),
                 ("read", &OF_RECORD),
                 ("write", &OF_WRITER),
             ]),
             pairs: [0; 6],
+            at_other: 0,
             lines: [0; 56],
             limits: Limits::none(),
         }
@@ -94,6 +100,10 @@ impl Counts {
         for ((combustion, metering), count) in PAIRS.iter().zip(self.pairs) {
             println!("{:>8} {count:>13}", format!("{combustion}/{metering}"));
         }
+        println!(
+            "values per kilogram the same at two metering temperatures: {} records",
+            self.at_other
+        );
         let (line, count) = self.least_line();
         println!("least of the 55 lines in accepted records: line {line}, {count} times");
         let (name, count) = self.limits.least();
@@ -109,6 +119,12 @@ impl Counts {
                 failures.push(format!("pair {combustion}/{metering} only {count} times"));
             }
         }
+        if self.at_other < due {
+            failures.push(format!(
+                "two metering temperatures only {} times",
+                self.at_other
+            ));
+        }
         let (line, count) = self.least_line();
         if count < due {
             failures.push(format!("line {line} only {count} times"));
@@ -122,19 +138,12 @@ impl Counts {
 }
 
 fn compare_record(record: &[u8], counts: &mut Counts) -> Result<(), String> {
-    let shown = |call: &str| format!("{call}\nrecord: {}", hex(record));
-
-    let expected = plain::properties_of(record);
-    let proved = loonstool::properties_of(record).map_err(Refusal::number);
-    same(&expected, &proved, || shown("properties_of"))?;
-    counts.answers.book(PROPERTIES_OF, &expected);
-    if expected.is_ok_and(|properties| !within_ceilings(&properties)) {
-        return Err(shown("properties_of, past a ceiling"));
-    }
+    compare_properties(record, counts)?;
+    compare_per_kilogram(record, counts)?;
 
     let expected = plain::read(record);
     let proved = loonstool::read(record).map_err(Refusal::number);
-    same(&expected, &proved, || shown("read"))?;
+    same(&expected, &proved, || shown("read", record))?;
     counts.answers.book(READ, &expected);
 
     counts.limits.book_record(record, place(&expected));
@@ -143,6 +152,57 @@ fn compare_record(record: &[u8], counts: &mut Counts) -> Result<(), String> {
         write_back(record, &analysis, counts)?;
     }
     Ok(())
+}
+
+fn shown(what: &str, record: &[u8]) -> String {
+    format!("{what}\nrecord: {}", hex(record))
+}
+
+/// Compares the properties, also with their ceilings.
+fn compare_properties(record: &[u8], counts: &mut Counts) -> Result<(), String> {
+    let expected = plain::properties_of(record);
+    let proved = loonstool::properties_of(record).map_err(Refusal::number);
+    same(&expected, &proved, || shown("properties_of", record))?;
+    counts.answers.book(PROPERTIES_OF, &expected);
+    if expected.is_ok_and(|properties| !within_ceilings(&properties)) {
+        return Err(shown("properties_of, past a ceiling", record));
+    }
+    Ok(())
+}
+
+/// Compares the values per kilogram, also with their ceilings, with the unrounded ones, and with those of the record at another metering
+/// temperature.
+fn compare_per_kilogram(record: &[u8], counts: &mut Counts) -> Result<(), String> {
+    let proved = |record: &[u8]| loonstool::per_kilogram(record).map_err(Refusal::number);
+    let expected = plain::per_kilogram(record);
+    same(&expected, &proved(record), || shown("per_kilogram", record))?;
+    counts.answers.book(PER_KILOGRAM, &expected);
+    let Ok(values) = expected else {
+        return Ok(());
+    };
+    let PerKilogram { superior, inferior } = PerKilogram::CEILINGS;
+    if values.superior > superior || values.inferior > inferior {
+        return Err(shown("per_kilogram, past a ceiling", record));
+    }
+    if within_half(&values, record) != Ok(true) {
+        return Err(shown("per_kilogram, off by more than half", record));
+    }
+    if let Some(other) = at_other_metering(record) {
+        let what = || shown("per_kilogram at another metering temperature", record);
+        same(&expected, &proved(&other), what)?;
+        counts.at_other += 1;
+    }
+    Ok(())
+}
+
+/// An accepted record with another metering temperature, where a permitted pair has one.
+fn at_other_metering(record: &[u8]) -> Option<Vec<u8>> {
+    let mut other = record.to_vec();
+    let (combustion, metering) = (record[5], record[6]);
+    let mut pairs = PAIRS.into_iter();
+    let pair = pairs.find(|pair| pair.0 == combustion && pair.1 != metering);
+    (_, other[6]) = pair?;
+    Some(other)
 }
 
 /// Whether no property passes its ceiling.
@@ -164,8 +224,8 @@ fn write_back(record: &[u8], read: &Analysis, counts: &mut Counts) -> Result<(),
         buffer: record.iter().map(|byte| !byte).collect(),
     };
     let written = compare_call(&call, counts)?;
-    let shown = || format!("write after read\nrecord: {}", hex(record));
-    same(&Bytes(record), &Bytes(&written), shown)
+    let what = || shown("write after read", record);
+    same(&Bytes(record), &Bytes(&written), what)
 }
 
 /// Compares the writers and gives the buffer as it is after the call.

@@ -1,6 +1,6 @@
 //! include/loonstool.h has the names, numbers, conditions, parameters and ceilings of this crate; the conditions, units and ceilings are
 //! those of the definitions in specs/.
-use loonstool::{Properties, Refusal, LINES, STREAMS, STREAM_WORDS};
+use loonstool::{PerKilogram, Properties, Refusal, LINES, STREAMS, STREAM_WORDS};
 
 const HEADER: &str = include_str!("../../include/loonstool.h");
 const WRAPPERS: [&str; 2] = [
@@ -128,8 +128,8 @@ fn declarations() {
     }
 }
 
-/// Name, unit and ceiling of a field of struct loonstool_properties.
-fn property(line: &str) -> Option<(&str, &str, u64)> {
+/// Name, unit and ceiling of a field of struct loonstool_properties or struct loonstool_per_kilogram.
+fn quantity(line: &str) -> Option<(&str, &str, u64)> {
     let (name, rest) = line.trim().strip_prefix("uint64_t ")?.split_once(';')?;
     let (unit, rest) = rest.split_once(", unit ")?.1.split_once(", at most ")?;
     let ceiling = rest.strip_suffix(" */")?.replace(',', "");
@@ -143,23 +143,28 @@ fn defined(file: &'static str, name: &str) -> &'static str {
     rest.lines().next().unwrap_or_default()
 }
 
-/// The elements of a list of specs/Quantities.antt, in the order Z, Hs, Hi, rho, d, W.
+/// The elements of a list of specs/Quantities.antt, in the order Z, Hs, Hi, rho, d, W, superior and inferior value per kilogram; the list
+/// has one for both of these.
 fn elements(name: &str) -> Vec<&'static str> {
     let list = defined(QUANTITIES, name).strip_suffix(" ∷ []").expect(name);
-    list.split(" ∷ ").collect()
+    let per_kilogram = list.rsplit(" ∷ ").take(1);
+    list.split(" ∷ ").chain(per_kilogram).collect()
 }
 
-/// How many of a unit of the header make 1 of the standard's (1, 1 MJ/m3, 1 kg/m3), in the words of specs/Quantities.antt.
+/// How many of a unit of the header make 1 of the standard's (1, 1 MJ/m3, 1 kg/m3, 1 MJ/kg), in the words of specs/Quantities.antt.
 fn scale(unit: &str) -> String {
-    let power = unit.strip_prefix("10^-").map(|rest| &rest[..1]);
-    let power = power.or((unit == "J/m3").then_some("6"));
-    format!("10 ^ {}", power.expect(unit))
+    let power = match unit {
+        "J/m3" => "6",
+        "10 J/kg" => "5",
+        _ => &unit.strip_prefix("10^-").expect(unit)[..1],
+    };
+    format!("10 ^ {power}")
 }
 
 #[test]
 fn units_and_ceilings() {
-    let in_header: Vec<_> = HEADER.lines().filter_map(property).collect();
-    let ceilings = Properties::CEILINGS;
+    let in_header: Vec<_> = HEADER.lines().filter_map(quantity).collect();
+    let (ceilings, per_kilogram) = (Properties::CEILINGS, PerKilogram::CEILINGS);
     let here = [
         ("z", ceilings.z),
         ("hs", ceilings.hs),
@@ -167,6 +172,8 @@ fn units_and_ceilings() {
         ("rho", ceilings.rho),
         ("d", ceilings.d),
         ("w", ceilings.w),
+        ("superior", per_kilogram.superior),
+        ("inferior", per_kilogram.inferior),
     ];
     let named = in_header.iter().map(|(name, _, ceiling)| (*name, *ceiling));
     assert_eq!(named.collect::<Vec<_>>(), here);
@@ -206,7 +213,7 @@ fn totals() {
     let in_c = fields(HEADER, "struct loonstool_totals {", "uint64_t ");
     let here = fields(WRAPPERS[1], "pub struct Totals {", "pub ");
     assert_eq!(in_c, here);
-    assert_eq!(here.len(), 5);
+    assert_eq!(here.len(), 7);
 }
 
 #[test]

@@ -5,7 +5,7 @@
 //! S is a whole number, or `random` for one from the clock. The seed is printed, with the command that repeats the run. After every call
 //! the answers are the same, and so are the words: those before the call, but for the row of the stream that an accepted call names, which
 //! is that of the plain meter. After every list all streams are compared. Some lists begin with calls that fill a stream; they are not
-//! among the N. On a sample of the lists the plain tally answers too, and what it has booked is near the exact energies and means.
+//! among the N. On a sample of the lists the plain tally answers too, and what it has booked is near the exact energies, mass and means.
 
 mod calls;
 mod cases;
@@ -53,6 +53,9 @@ const TOTALS: usize = 2;
 const MEAN: usize = 3;
 const MEAN_INFERIOR: usize = 4;
 
+/// The registers whose rest is carried to the whole.
+const REGISTERS: [&str; 3] = ["superior energy", "inferior energy", "mass"];
+
 fn main() -> ExitCode {
     CALLS.main(compare_all)
 }
@@ -66,7 +69,9 @@ fn compare_all(run: &Run) -> Result<Vec<String>, String> {
         counts.lists += 1;
     }
     counts.print();
-    run.print_due("of each answer of each call, and of words restored");
+    run.print_due(
+        "of each answer of each call, of words restored, and of the carries of each register",
+    );
     Ok(counts.failures(run))
 }
 
@@ -127,6 +132,8 @@ struct Counts {
     met: u64,
     /// Metering calls that would have brought it one above.
     passed: u64,
+    /// Metering calls that carried from the rest to the whole, of each register.
+    carries: [u64; 3],
 }
 
 impl Counts {
@@ -147,6 +154,14 @@ impl Counts {
             restored: 0,
             met: 0,
             passed: 0,
+            carries: [0; 3],
+        }
+    }
+
+    /// Books the carries of a call, by the rests of its stream before and after it: a rest that carries falls.
+    fn book_carries(&mut self, before: [u64; 3], after: [u64; 3]) {
+        for (count, (before, after)) in self.carries.iter_mut().zip(before.into_iter().zip(after)) {
+            *count += u64::from(after < before);
         }
     }
 
@@ -181,20 +196,27 @@ impl Counts {
             self.filled, self.filling, self.met, self.passed
         );
         println!(
-            "{} lists with the tally: energies within 2 mJ per dm3 of the exact ones, means within 3 J/m3",
+            "{} lists with the tally: energies within 2 mJ per dm3 of the exact ones, mass within 2e-11 kg per dm3, means within 3 J/m3",
             self.sampled
         );
+        for (name, carries) in REGISTERS.iter().zip(self.carries) {
+            println!("{name}: rest carried to the whole {carries} times");
+        }
     }
 
     /// What occurs less often than due, and what a call cannot give.
     fn failures(&self, run: &Run) -> Vec<String> {
         let mut failures = self.answers.failures(run.due());
+        let carries = REGISTERS.into_iter().zip(self.carries);
         for (what, count, due) in [
             ("words restored", self.restored, run.due()),
             ("list with the tally", self.sampled, run.due_of_limits()),
             ("greatest total met", self.met, run.due_of_limits()),
             ("greatest total passed", self.passed, run.due_of_limits()),
-        ] {
+        ]
+        .into_iter()
+        .chain(carries.map(|(name, count)| (name, count, run.due())))
+        {
             if count < due {
                 failures.push(format!("{what} only {count} times"));
             }
@@ -223,6 +245,12 @@ impl Meters {
     fn room(&self, stream: usize) -> Option<u64> {
         let totals = self.plain.totals(stream).ok();
         totals.map(|totals| GREATEST_TOTAL - totals.volume)
+    }
+
+    /// The rests of a stream.
+    fn rests(&self, stream: usize) -> [u64; 3] {
+        let totals = self.plain.totals(stream).ok();
+        totals.map_or([0; 3], |t| [t.superior_rest, t.inferior_rest, t.mass_rest])
     }
 
     /// Puts a gas in force on a stream, and meters until one call more can fill it.
@@ -260,8 +288,10 @@ impl Meters {
     /// Makes a call, and compares answers and words.
     fn compare(&mut self, call: &Call, counts: &mut Counts) -> Result<(), String> {
         let (before, room) = (*self.proved.words(), self.room(call.stream));
+        let rests = self.rests(call.stream);
         let answer = self.answer(call)?;
         counts.book(call, room, &answer);
+        counts.book_carries(rests, self.rests(call.stream));
         let mut words = before;
         if answer == Answer::Changed(Ok(())) {
             words[call.stream] = row_of(&self.plain.streams[call.stream]);
@@ -278,7 +308,7 @@ impl Meters {
         Ok(())
     }
 
-    /// Compares every stream: words, totals and means, and energies and means with the exact ones.
+    /// Compares every stream: words, totals and means, and energies, mass and means with the exact ones.
     fn compare_whole(&mut self) -> Result<(), String> {
         let words = words_of(&self.plain);
         same(&words, self.proved.words(), || String::from("all words"))?;
@@ -289,7 +319,7 @@ impl Meters {
         for k in 0..=STREAMS {
             self.answer(&call(b'r', k, 0))?;
             let is_near = self.tally.as_ref().is_none_or(|tally| tally.is_near(k));
-            let what = || format!("stream {k}: whether energies and means are near the exact ones");
+            let what = || format!("stream {k}: whether energies, mass and means are near exact");
             same(&true, &is_near, what)?;
         }
         Ok(())

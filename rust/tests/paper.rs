@@ -1,28 +1,38 @@
-//! Document 01's cases K1 to K9, further gases, the inferior energy of K9, and
-//! each refusal number of a record and the writer, on the library and the plain
-//! version; K10 on the plain version.
+//! Document 01's cases K1 to K9, further gases, the inferior energy and the mass
+//! of K9, values per kilogram, and each refusal number of a record and the
+//! writer, on the library and the plain version; K10 on the plain version.
 
 mod calls;
 mod cases;
 mod plain;
 
 use calls::{analysis, call, Answer, Reading, TakesCalls};
-use cases::{record, K1, K1_PROPERTIES, K2};
-use loonstool::{Analysis, Properties, Refusal};
-use plain::table::TABLE;
+use cases::{methane_and, record, HALF_GAS, K1, K1_PROPERTIES, K2};
+use loonstool::{Analysis, PerKilogram, Properties, Refusal};
+use plain::conditions::Conditions;
+use plain::table::{MASS, TABLE};
+use std::collections::HashMap;
+use std::fmt::Debug;
 
 /// What both sides answer.
+fn both<T: PartialEq + Debug>(plain: Result<T, u8>, library: Result<T, Refusal>) -> Result<T, u8> {
+    assert_eq!(library.map_err(Refusal::number), plain);
+    plain
+}
+
 fn properties_of(record: &[u8]) -> Result<Properties, u8> {
-    let answer = plain::properties_of(record);
-    let library = loonstool::properties_of(record);
-    assert_eq!(library.map_err(Refusal::number), answer);
-    answer
+    both(
+        plain::properties_of(record),
+        loonstool::properties_of(record),
+    )
+}
+
+fn per_kilogram(record: &[u8]) -> Result<PerKilogram, u8> {
+    both(plain::per_kilogram(record), loonstool::per_kilogram(record))
 }
 
 fn read(record: &[u8]) -> Result<Analysis, u8> {
-    let answer = plain::read(record);
-    assert_eq!(loonstool::read(record).map_err(Refusal::number), answer);
-    answer
+    both(plain::read(record), loonstool::read(record))
 }
 
 fn write(
@@ -34,10 +44,9 @@ fn write(
 ) -> Result<usize, u8> {
     let mut of_library = out.to_vec();
     let library = loonstool::write(combustion, metering, lines, fractions, &mut of_library);
-    let answer = plain::write(combustion, metering, lines, fractions, out);
-    assert_eq!(library.map_err(Refusal::number), answer);
+    let plain = plain::write(combustion, metering, lines, fractions, out);
     assert_eq!(of_library, out);
-    answer
+    both(plain, library)
 }
 
 #[test]
@@ -68,9 +77,10 @@ fn number_of<T>(answer: &Result<T, u8>) -> u8 {
 fn records_and_each_number() {
     let mut seen = [false; 13];
     for (title, record, number) in cases::records() {
-        let (properties, reading) = (properties_of(&record), read(&record));
-        assert_eq!(number_of(&properties), number, "{title}");
+        let reading = read(&record);
         assert_eq!(number_of(&reading), number, "{title}");
+        assert_eq!(number_of(&properties_of(&record)), number, "{title}");
+        assert_eq!(number_of(&per_kilogram(&record)), number, "{title}");
         if let Ok(analysis) = reading {
             written_again(&record, &analysis);
         }
@@ -153,6 +163,60 @@ fn k9_inferior_energy() {
         assert_eq!((totals.inferior_mj, totals.inferior_rest), (34, 15_574_000));
         assert_eq!(reading.mean_inferior, Ok(34_015_574));
     }
+}
+
+/// Computed by the plain version; the paper prints no mass.
+#[test]
+fn k9_mass() {
+    for reading in k9() {
+        let totals = reading.totals.unwrap();
+        assert_eq!((totals.mass_kg, totals.mass_rest), (0, 67_985_382_000));
+    }
+}
+
+/// Methane at each combustion temperature: h by m, to the nearest. At 15 °C
+/// document 02 prints the superior one.
+#[test]
+fn methane_per_kilogram() {
+    for (combustion, metering) in [(25, 0), (20, 20), (15, 15), (0, 0)] {
+        let column = Conditions::of(combustion, metering).unwrap().superior;
+        let [superior, inferior] = [column, column + 1].map(|column| {
+            let [h, m] = [column, MASS].map(|column| TABLE[0][column] as u64);
+            (2 * 1_000_000 * h + m) / (2 * m)
+        });
+        let values = per_kilogram(&record(combustion, metering, &methane_and(&[])));
+        assert_eq!(values, Ok(PerKilogram { superior, inferior }));
+        assert!(combustion != 15 || superior == 5_557_315);
+    }
+}
+
+/// Hm × 1,000,000 / M ends in .5, and goes upward.
+#[test]
+fn half_per_kilogram() {
+    let sum = |column: usize| -> i64 {
+        let number = |line: u8| TABLE[usize::from(line) - 1][column];
+        let term = |(line, x)| i64::from(number(line)) * i64::from(x);
+        HALF_GAS.map(term).iter().sum()
+    };
+    let hm = sum(Conditions::of(15, 15).unwrap().superior);
+    let values = per_kilogram(&record(15, 15, &HALF_GAS)).unwrap();
+    assert_eq!(
+        2 * 1_000_000 * hm,
+        (2 * values.superior as i64 - 1) * sum(MASS)
+    );
+}
+
+/// Of the two temperatures only the combustion one matters.
+#[test]
+fn per_kilogram_by_combustion() {
+    let mut found = HashMap::new();
+    for (name, gas) in cases::by_mass() {
+        let values = per_kilogram(&gas.record()).unwrap();
+        let earlier = found.entry((name, gas.pair.0)).or_insert(values);
+        assert_eq!(*earlier, values, "{}", gas.title);
+    }
+    let superior = [25, 20, 15, 0].map(|combustion| found[&("annexD", combustion)].superior);
+    assert!(superior.is_sorted_by(|one, next| one < next));
 }
 
 #[test]

@@ -12,7 +12,9 @@ use calls::{analysis, call, Answer, Call, TakesCalls};
 use cases::{every_line, record, K1, K2};
 use loonstool::{Meter, NotAMeter, Properties, Words, STREAMS, STREAM_WORDS};
 use plain::conditions::Conditions;
-use plain::meter::{Energy, InForce, GREATEST_TOTAL, GREATEST_VOLUME, MEGAJOULE};
+use plain::meter::{
+    Energy, InForce, Register, GREATEST_TOTAL, GREATEST_VOLUME, KILOGRAM, MEGAJOULE,
+};
 use plain::properties::{air_density, by_air, index};
 use plain::words::{hold_a_meter, meter_of, words_of};
 use records::{Random, PAIRS};
@@ -124,6 +126,7 @@ fn limits() -> Vec<u64> {
         25,
         GREATEST_VOLUME,
         MEGAJOULE - 1,
+        KILOGRAM - 1,
         GREATEST_TOTAL,
     ];
     let past = |limit: &u64| [*limit, limit + 1];
@@ -300,41 +303,76 @@ fn index_at_its_ceiling() {
     assert!([high.w, high.w + 1].iter().all(|w| tried.contains(w)));
 }
 
-/// Energies of a volume: the least and the most that it can have, and a whole MJ between them, one mJ more and less, and each of these
-/// once more with a rest that is too great, where there is a whole MJ.
-fn energies(volume: u64) -> Vec<Energy> {
-    let mega = u128::from(MEGAJOULE);
-    let [low, high] = [Properties::FLOORS.hs, Properties::CEILINGS.hs]
-        .map(|calorific| u128::from(volume) * u128::from(calorific));
-    let energy = |energy: u128| {
-        let (whole, rest) = ((energy / mega) as u64, (energy % mega) as u64);
-        [(whole, rest), (whole.saturating_sub(1), rest + MEGAJOULE)]
-            .map(|(whole, rest)| Energy { whole, rest })
+/// The register that holds an amount.
+fn register<const WHOLE: u64>(amount: u128) -> Register<WHOLE> {
+    let parts = u128::from(WHOLE);
+    Register {
+        whole: (amount / parts) as u64,
+        rest: (amount % parts) as u64,
+    }
+}
+
+/// What a volume makes at a property.
+fn made(volume: u64, property: u64) -> u128 {
+    u128::from(volume) * u128::from(property)
+}
+
+/// A register of a volume: the least and the most that it can be at a property between the limits, and a whole between them, one part more
+/// and less, and each of these once more with a rest that is too great, where there is a whole.
+fn registers<const WHOLE: u64>(volume: u64, limits: [u64; 2]) -> Vec<Register<WHOLE>> {
+    let parts = u128::from(WHOLE);
+    let [low, high] = limits.map(|property| made(volume, property));
+    let with_too_much = |right: Register<WHOLE>| {
+        let (whole, rest) = (right.whole.saturating_sub(1), right.rest + WHOLE);
+        [right, Register { whole, rest }]
     };
-    [low, (low + high) / 2 / mega * mega, high]
+    [low, (low + high) / 2 / parts * parts, high]
         .into_iter()
         .flat_map(|bound| [bound.saturating_sub(1), bound, bound + 1])
-        .flat_map(energy)
+        .flat_map(|amount| with_too_much(register(amount)))
         .collect()
+}
+
+/// Volumes for the registers: the first ones, some, and the greatest.
+fn volumes() -> impl Iterator<Item = u64> {
+    let mut random = Random::new(SEED);
+    let some = (0..500).map(move |_| random.below(GREATEST_TOTAL + 1));
+    (0..500).chain(some).chain([GREATEST_TOTAL])
 }
 
 #[test]
 fn energies_at_their_bounds() {
-    let mut counts = Counts::default();
-    let (mut meter, mut random) = (metered(), Random::new(SEED));
-    let some = (0..500).map(|_| random.below(GREATEST_TOTAL + 1));
-    for volume in (0..500).chain(some).chain([GREATEST_TOTAL]) {
-        let energies = energies(volume);
+    let (mut counts, mut meter) = (Counts::default(), metered());
+    let (low, high) = (Properties::FLOORS, Properties::CEILINGS);
+    for volume in volumes() {
+        let energies: Vec<Energy> = registers(volume, [low.hs, high.hs]);
         for (superior, inferior) in energies
             .iter()
             .flat_map(|superior| energies.iter().map(move |inferior| (*superior, *inferior)))
         {
             let stream = &mut meter.streams[DAMAGED];
             (stream.volume, stream.superior, stream.inferior) = (volume, superior, inferior);
+            stream.mass = register(made(volume, low.rho));
             counts.restore(&words_of(&meter), DAMAGED);
         }
     }
     counts.print("energies at their bounds, each with each", 1_000);
+}
+
+#[test]
+fn mass_at_its_bounds() {
+    let (mut counts, mut meter) = (Counts::default(), metered());
+    let (low, high) = (Properties::FLOORS, Properties::CEILINGS);
+    for volume in volumes() {
+        let energy = register(made(volume, low.hs));
+        for mass in registers(volume, [low.rho, high.rho]) {
+            let stream = &mut meter.streams[DAMAGED];
+            (stream.volume, stream.superior, stream.inferior) = (volume, energy, energy);
+            stream.mass = mass;
+            counts.restore(&words_of(&meter), DAMAGED);
+        }
+    }
+    counts.print("mass at its bounds", 1_000);
 }
 
 #[test]

@@ -89,31 +89,68 @@ pub fn of_paper() -> Vec<Gas> {
     ]
 }
 
-/// The gases of crates/properties/specs/Cases.antt, each with its name there.
+/// A gas with its title, its name in crates/properties/specs/Cases.antt, its pair and its entries.
+type Named = (&'static str, &'static str, (u8, u8), Vec<(u8, u32)>);
+
+fn gases_of(named: Vec<Named>) -> Vec<(&'static str, Gas)> {
+    named
+        .into_iter()
+        .map(|(title, name, pair, entries)| {
+            let title = format!("{title} {}/{}", pair.0, pair.1);
+            (name, Gas::new(&title, pair, entries, 0))
+        })
+        .collect()
+}
+
+fn annex_d(pair: (u8, u8)) -> Named {
+    ("annex D", "annexD", pair, K1.to_vec())
+}
+
+fn hydrogen(pair: (u8, u8)) -> Named {
+    let entries = methane_and(&[(41, 50_000)]);
+    ("hydrogen", "hydrogen", pair, entries)
+}
+
+/// The least methane with ten heavy lines.
+fn heavy() -> Named {
+    let others: Vec<_> = (8..=17).map(|line| (line, 50_000)).collect();
+    ("heavy", "heavy", (0, 0), methane_and(&others))
+}
+
+fn all_lines() -> Named {
+    ("every line", "everyLine", (25, 20), every_line())
+}
+
+/// The gases of `gases` in crates/properties/specs/Cases.antt, each with its name there.
 pub fn further() -> Vec<(&'static str, Gas)> {
-    let hydrogen = methane_and(&[(41, 50_000)]);
-    let heavy: Vec<_> = (8..=17).map(|line| (line, 50_000)).collect();
     let at_half = methane_and(&[(4, 14_351), (16, 41_306)]);
     let below_half = methane_and(&[(16, 9_403)]);
-    [
-        ("annex D", "annexD", (0, 0), K1.to_vec()),
-        ("annex D", "annexD", (15, 0), K1.to_vec()),
-        ("annex D", "annexD", (25, 0), K1.to_vec()),
-        ("annex D", "annexD", (20, 20), K1.to_vec()),
-        ("annex D", "annexD", (25, 20), K1.to_vec()),
-        ("hydrogen", "hydrogen", (15, 15), hydrogen.clone()),
-        ("hydrogen", "hydrogen", (25, 0), hydrogen),
-        ("heavy", "heavy", (0, 0), methane_and(&heavy)),
+    gases_of(vec![
+        annex_d((0, 0)),
+        annex_d((15, 0)),
+        annex_d((25, 0)),
+        annex_d((20, 20)),
+        annex_d((25, 20)),
+        hydrogen((15, 15)),
+        hydrogen((25, 0)),
+        heavy(),
         ("at a half", "atHalf", (25, 0), at_half),
         ("below a half", "belowHalf", (15, 15), below_half),
-        ("every line", "everyLine", (25, 20), every_line()),
-    ]
-    .into_iter()
-    .map(|(title, name, pair, entries)| {
-        let title = format!("{title} {}/{}", pair.0, pair.1);
-        (name, Gas::new(&title, pair, entries, 0))
-    })
-    .collect()
+        all_lines(),
+    ])
+}
+
+/// Methane, ethane and nitrogen: at 15 °C the superior calorific value per kilogram, unrounded, ends in .5.
+pub const HALF_GAS: [(u8, u32); 3] = [(1, 905_709), (2, 60_753), (52, 33_538)];
+
+/// The gases of `massGases` in crates/properties/specs/Cases.antt, each with its name there.
+#[rustfmt::skip]
+pub fn by_mass() -> Vec<(&'static str, Gas)> {
+    let methane = [(25, 0), (20, 20), (15, 15), (0, 0)].map(|pair| ("methane", "methane", pair, methane_and(&[])));
+    let annex_d = [(15, 15), (0, 0), (15, 0), (25, 0), (20, 20), (25, 20)].map(annex_d);
+    let half = ("half a unit", "halfGas", (15, 15), HALF_GAS.to_vec());
+    let others = [hydrogen((15, 15)), heavy(), all_lines(), half];
+    gases_of(methane.into_iter().chain(annex_d).chain(others).collect())
 }
 
 /// Every record with its title and the number that refuses it, 0 where it is accepted: the gases, K2 at another pair, and bytes that are

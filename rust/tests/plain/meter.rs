@@ -10,6 +10,9 @@ pub const GREATEST_TOTAL: u64 = 999_999_999_999;
 /// mJ in a MJ.
 pub const MEGAJOULE: u64 = 1_000_000_000;
 
+/// 10^-11 kg in a kg.
+pub const KILOGRAM: u64 = 100_000_000_000;
+
 /// The pair and the properties of a stream's last accepted analysis, Z to W,
 /// none of which passes 10^9.
 #[derive(Debug, Clone, Copy)]
@@ -18,23 +21,33 @@ pub struct InForce {
     pub six: [u32; 6],
 }
 
-/// An energy register.
+/// A register, whose rest is counted in parts of which WHOLE make a whole.
 #[derive(Debug, Clone, Copy)]
-pub struct Energy {
-    /// Whole MJ.
+pub struct Register<const WHOLE: u64> {
     pub whole: u64,
-    /// mJ past the whole MJ, below 10^9.
+    /// Below WHOLE.
     pub rest: u64,
 }
 
-impl Energy {
-    /// Adds a volume in dm³ at a calorific value in J/m³, which makes mJ.
-    fn add(&mut self, volume: u64, calorific: u32) {
-        let energy = self.rest + volume * u64::from(calorific);
-        self.whole += energy / MEGAJOULE;
-        self.rest = energy % MEGAJOULE;
-    }
+/// Whole MJ, and mJ.
+pub type Energy = Register<MEGAJOULE>;
 
+/// Whole kg, and 10^-11 kg.
+pub type Mass = Register<KILOGRAM>;
+
+impl<const WHOLE: u64> Register<WHOLE> {
+    const EMPTY: Self = Self { whole: 0, rest: 0 };
+
+    /// Adds a volume in dm³ at a calorific value in J/m³, which makes mJ, or at a
+    /// density in 10^-8 kg/m³, which makes 10^-11 kg.
+    fn add(&mut self, volume: u64, property: u32) {
+        let sum = self.rest + volume * u64::from(property);
+        self.whole += sum / WHOLE;
+        self.rest = sum % WHOLE;
+    }
+}
+
+impl Energy {
     /// The mean calorific value over a volume: energy by volume, to the nearest.
     fn mean(&self, volume: u64) -> Result<u64, u8> {
         if volume == 0 {
@@ -53,6 +66,7 @@ pub struct Stream {
     pub volume: u64,
     pub superior: Energy,
     pub inferior: Energy,
+    pub mass: Mass,
 }
 
 #[derive(Debug, Clone)]
@@ -67,14 +81,14 @@ pub struct Changed {
 }
 
 impl Meter {
-    /// A meter without analyses, volumes and energies 0.
+    /// A meter without analyses, volumes, energies and masses 0.
     pub fn fresh() -> Self {
-        let energy = Energy { whole: 0, rest: 0 };
         let stream = Stream {
             in_force: None,
             volume: 0,
-            superior: energy,
-            inferior: energy,
+            superior: Energy::EMPTY,
+            inferior: Energy::EMPTY,
+            mass: Mass::EMPTY,
         };
         Self {
             streams: [stream; STREAMS],
@@ -94,7 +108,7 @@ impl Meter {
         Ok(())
     }
 
-    /// Adds a volume in dm³ and its energies.
+    /// Adds a volume in dm³, its energies and its mass.
     pub fn metering(&mut self, stream: usize, volume: u64) -> Result<(), u8> {
         let stream = self.streams.get_mut(stream).ok_or(13)?;
         if volume > GREATEST_VOLUME {
@@ -105,10 +119,11 @@ impl Meter {
         if total > GREATEST_TOTAL {
             return Err(17);
         }
-        let [_, hs, hi, ..] = in_force.six;
+        let [_, hs, hi, rho, ..] = in_force.six;
         stream.volume = total;
         stream.superior.add(volume, hs);
         stream.inferior.add(volume, hi);
+        stream.mass.add(volume, rho);
         Ok(())
     }
 
@@ -127,7 +142,8 @@ impl Meter {
         self.metering_by_value(stream, volume)
     }
 
-    /// Volume in dm³, both energies in whole MJ and their rests in mJ.
+    /// Volume in dm³, both energies in whole MJ and their rests in mJ, mass in
+    /// whole kg and its rest in 10^-11 kg.
     pub fn totals(&self, stream: usize) -> Result<Totals, u8> {
         let stream = self.streams.get(stream).ok_or(13)?;
         Ok(Totals {
@@ -136,6 +152,8 @@ impl Meter {
             superior_rest: stream.superior.rest,
             inferior_mj: stream.inferior.whole,
             inferior_rest: stream.inferior.rest,
+            mass_kg: stream.mass.whole,
+            mass_rest: stream.mass.rest,
         })
     }
 

@@ -1,4 +1,4 @@
-//! From fractions to the six properties.
+//! From fractions to the six properties and the calorific values per kilogram.
 //!
 //! For an accepted record every product fits in 64 bits. The fractions sum to
 //! at most 1,000,100 and every table entry is below 6,850,000, every molar mass
@@ -16,16 +16,37 @@ use super::conditions::Conditions;
 use super::fraction::Fraction;
 use super::record::check;
 use super::table::{MASS, TABLE};
-use loonstool::Properties;
+use loonstool::{PerKilogram, Properties};
 use std::ops::{Add, Div};
 
 const GIGA: u64 = 1_000_000_000;
+const MEGA: u64 = 1_000_000;
 
 /// The properties of a record, refused by 1 to 12.
 pub fn properties_of(record: &[u8]) -> Result<Properties, u8> {
-    let checked = check(record)?;
-    let conditions = &checked.conditions;
-    Ok(Sums::over(checked.entries(), conditions).properties(conditions))
+    let (sums, conditions) = sums_of(record)?;
+    Ok(sums.properties(&conditions))
+}
+
+/// The calorific values of a record per kilogram, refused by 1 to 12.
+pub fn per_kilogram(record: &[u8]) -> Result<PerKilogram, u8> {
+    let (sums, _) = sums_of(record)?;
+    let value = |hm| near(hm * MEGA, sums.mass);
+    Ok(PerKilogram {
+        superior: value(sums.superior),
+        inferior: value(sums.inferior),
+    })
+}
+
+/// Whether values are within half a unit of those of a record, unrounded.
+pub fn within_half(values: &PerKilogram, record: &[u8]) -> Result<bool, u8> {
+    let (sums, _) = sums_of(record)?;
+    let mass = u128::from(sums.mass);
+    let within = |value: u64, hm: u64| {
+        let [value, hm] = [value, hm].map(u128::from);
+        (2 * value * mass).abs_diff(2 * hm * u128::from(MEGA)) <= mass
+    };
+    Ok(within(values.superior, sums.superior) && within(values.inferior, sums.inferior))
 }
 
 /// Z, Hs, Hi, rho, d and W.
@@ -33,15 +54,26 @@ pub fn six(p: &Properties) -> [u64; 6] {
     [p.z, p.hs, p.hi, p.rho, p.d, p.w]
 }
 
-/// The unrounded Hs and Hi of a record in J/m³, with Z = 1 − (S / 10^10)².
-pub fn unrounded_hs_and_hi(record: &[u8]) -> Result<[Fraction; 2], u8> {
+/// The unrounded Hs and Hi of a record in J/m³ and its unrounded rho in 10^-8
+/// kg/m³, with Z = 1 − (S / 10^10)².
+pub fn unrounded_hs_hi_and_rho(record: &[u8]) -> Result<[Fraction; 3], u8> {
     const ONE: u128 = 100_000_000_000_000_000_000;
+    let (sums, conditions) = sums_of(record)?;
+    let z = ONE - u128::from(sums.factor.unsigned_abs()).pow(2);
+    let real =
+        |sum: u64, scale| Fraction::new(&[sum.into(), scale, ONE], &[conditions.d.into(), z]);
+    Ok([
+        real(sums.superior, 1_013_250),
+        real(sums.inferior, 1_013_250),
+        real(sums.mass, 10_132_500),
+    ])
+}
+
+/// The sums of a record and what its pair fixes.
+fn sums_of(record: &[u8]) -> Result<(Sums, Conditions), u8> {
     let checked = check(record)?;
     let sums = Sums::over(checked.entries(), &checked.conditions);
-    let z = ONE - u128::from(sums.factor.unsigned_abs()).pow(2);
-    let d = u128::from(checked.conditions.d);
-    let real = |sum: u64| Fraction::new(&[sum.into(), 1_013_250, ONE], &[d, z]);
-    Ok([sums.superior, sums.inferior].map(real))
+    Ok((sums, checked.conditions))
 }
 
 /// The sums over all lines, without rounding.

@@ -1,22 +1,22 @@
 //! The tally: what the calls of a list add up to, booked and exact.
 
 use super::fraction::Fraction;
-use super::properties::{properties_of, unrounded_hs_and_hi};
+use super::properties::{properties_of, unrounded_hs_hi_and_rho};
 use loonstool::Totals;
 
-/// A calorific value in J/m³, rounded and unrounded.
+/// A calorific value in J/m³ or a density in 10^-8 kg/m³, rounded and unrounded.
 #[derive(Clone)]
-struct Calorific {
+struct Property {
     rounded: u64,
     unrounded: Fraction,
 }
 
-/// What a stream's volumes add up to at one of the two calorific values.
+/// What a stream's volumes add up to at one of the two calorific values, in mJ, or at the density, in 10^-11 kg.
 #[derive(Clone)]
 struct Account {
-    /// E, mJ.
+    /// E, and the mass.
     booked: u128,
-    /// X, mJ.
+    /// X, and the exact mass.
     exact: Fraction,
 }
 
@@ -28,14 +28,14 @@ impl Account {
         }
     }
 
-    fn add(&mut self, volume: u64, calorific: &Calorific) {
-        self.booked += u128::from(volume) * u128::from(calorific.rounded);
-        self.exact.add_times(volume, &calorific.unrounded);
+    fn add(&mut self, volume: u64, property: &Property) {
+        self.booked += u128::from(volume) * u128::from(property.rounded);
+        self.exact.add_times(volume, &property.unrounded);
     }
 
-    /// E as whole MJ and rest.
-    fn whole_and_rest(&self) -> (u64, u64) {
-        let (whole, rest) = (self.booked / 1_000_000_000, self.booked % 1_000_000_000);
+    /// What is booked as wholes of so many parts, and rest.
+    fn whole_and_rest(&self, parts: u128) -> (u64, u64) {
+        let (whole, rest) = (self.booked / parts, self.booked % parts);
         (whole as u64, rest as u64)
     }
 
@@ -46,12 +46,16 @@ impl Account {
         mean.map(|mean| mean as u64).ok_or(18)
     }
 
-    /// Whether E is within 2 mJ per dm³ of X, and the mean, where there is one, within 3 J/m³ of X / V.
+    /// Whether what is booked is within 2 mJ, or 2 × 10^-11 kg, per dm³ of what is exact.
     fn is_near(&self, volume: u64) -> bool {
+        self.exact.is_within(2 * u128::from(volume), self.booked)
+    }
+
+    /// Whether the mean, where there is one, is within 3 J/m³ of X / V.
+    fn mean_is_near(&self, volume: u64) -> bool {
         let mean = u128::from(self.mean(volume).unwrap_or(0));
         let volume = u128::from(volume);
-        self.exact.is_within(2 * volume, self.booked)
-            && self.exact.is_within(3 * volume, mean * volume)
+        self.exact.is_within(3 * volume, mean * volume)
     }
 }
 
@@ -59,19 +63,21 @@ impl Account {
 #[derive(Clone)]
 struct InForce {
     pair: (u8, u8),
-    hs: Calorific,
-    hi: Calorific,
+    hs: Property,
+    hi: Property,
+    rho: Property,
 }
 
 impl InForce {
     fn of(record: &[u8]) -> Result<Self, u8> {
         let properties = properties_of(record)?;
-        let [hs, hi] = unrounded_hs_and_hi(record)?;
-        let calorific = |rounded, unrounded| Calorific { rounded, unrounded };
+        let [hs, hi, rho] = unrounded_hs_hi_and_rho(record)?;
+        let property = |rounded, unrounded| Property { rounded, unrounded };
         Ok(Self {
             pair: (record[5], record[6]),
-            hs: calorific(properties.hs, hs),
-            hi: calorific(properties.hi, hi),
+            hs: property(properties.hs, hs),
+            hi: property(properties.hi, hi),
+            rho: property(properties.rho, rho),
         })
     }
 }
@@ -83,6 +89,18 @@ struct Stream {
     volume: u64,
     superior: Account,
     inferior: Account,
+    mass: Account,
+}
+
+impl Stream {
+    /// Whether all that is booked is near what is exact, and both means near X / V.
+    fn is_near(&self) -> bool {
+        let energies = [&self.superior, &self.inferior];
+        self.mass.is_near(self.volume)
+            && energies
+                .iter()
+                .all(|energy| energy.is_near(self.volume) && energy.mean_is_near(self.volume))
+    }
 }
 
 pub struct Tally {
@@ -96,6 +114,7 @@ impl Tally {
             volume: 0,
             superior: Account::empty(),
             inferior: Account::empty(),
+            mass: Account::empty(),
         };
         Self {
             streams: vec![stream; 16],
@@ -125,20 +144,24 @@ impl Tally {
         stream.volume += volume;
         stream.superior.add(volume, &gas.hs);
         stream.inferior.add(volume, &gas.hi);
+        stream.mass.add(volume, &gas.rho);
         Ok(())
     }
 
-    /// V, and each E as whole MJ and rest.
+    /// V, each E as whole MJ and rest in mJ, and the mass as whole kg and rest in 10^-11 kg.
     pub fn totals(&self, stream: usize) -> Result<Totals, u8> {
         let stream = self.streams.get(stream).ok_or(13)?;
-        let (superior_mj, superior_rest) = stream.superior.whole_and_rest();
-        let (inferior_mj, inferior_rest) = stream.inferior.whole_and_rest();
+        let (superior_mj, superior_rest) = stream.superior.whole_and_rest(1_000_000_000);
+        let (inferior_mj, inferior_rest) = stream.inferior.whole_and_rest(1_000_000_000);
+        let (mass_kg, mass_rest) = stream.mass.whole_and_rest(100_000_000_000);
         Ok(Totals {
             volume: stream.volume,
             superior_mj,
             superior_rest,
             inferior_mj,
             inferior_rest,
+            mass_kg,
+            mass_rest,
         })
     }
 
@@ -154,10 +177,8 @@ impl Tally {
         stream.inferior.mean(stream.volume)
     }
 
-    /// Whether both E of a stream are near their X, and both means near X / V. A stream above 15 has none of them.
+    /// Whether all that is booked on a stream is near what is exact, and both means near X / V. A stream above 15 has none of them.
     pub fn is_near(&self, stream: usize) -> bool {
-        self.streams
-            .get(stream)
-            .is_none_or(|s| s.superior.is_near(s.volume) && s.inferior.is_near(s.volume))
+        self.streams.get(stream).is_none_or(Stream::is_near)
     }
 }

@@ -2,7 +2,7 @@
 //! which words hold a meter.
 
 use super::conditions::Conditions;
-use super::meter::{Energy, InForce, Meter, Stream, GREATEST_TOTAL, MEGAJOULE};
+use super::meter::{InForce, Meter, Register, Stream, GREATEST_TOTAL, KILOGRAM, MEGAJOULE};
 use super::properties::{by_air, index, six};
 use loonstool::{Properties, Words, STREAM_WORDS};
 
@@ -16,16 +16,17 @@ pub fn words_of(meter: &Meter) -> Words {
 }
 
 /// The words of a stream: 0 where it has no analysis, and so neither volume
-/// nor energy.
+/// nor energy nor mass.
 pub fn row_of(stream: &Stream) -> [u64; STREAM_WORDS] {
     let Some(InForce { pair, six }) = stream.in_force else {
         return [0; STREAM_WORDS];
     };
     let [combustion, metering] = [pair.0, pair.1].map(u64::from);
     let [z, hs, hi, rho, d, w] = six.map(u64::from);
-    let (volume, s, i) = (stream.volume, stream.superior, stream.inferior);
+    let (volume, s, i, m) = (stream.volume, stream.superior, stream.inferior, stream.mass);
     [
         1, combustion, metering, z, hs, hi, rho, d, w, volume, s.whole, s.rest, i.whole, i.rest,
+        m.whole, m.rest,
     ]
 }
 
@@ -38,7 +39,7 @@ pub fn hold_a_meter(words: &Words) -> bool {
 }
 
 fn holds_a_stream(row: [u128; STREAM_WORDS]) -> bool {
-    let [analysed, combustion, metering, z, hs, hi, rho, d, w, volume, energies @ ..] = row;
+    let [analysed, combustion, metering, z, hs, hi, rho, d, w, volume, registers @ ..] = row;
     let of_gas = |conditions| are_of_gas([z, hs, hi, rho, d, w], &conditions);
     match analysed {
         // Nothing is metered without an analysis.
@@ -46,7 +47,7 @@ fn holds_a_stream(row: [u128; STREAM_WORDS]) -> bool {
         1 => {
             permitted(combustion, metering).is_some_and(of_gas)
                 && volume <= GREATEST_TOTAL.into()
-                && are_of_volume(energies, volume)
+                && are_of_volume(registers, volume)
         }
         _ => false,
     }
@@ -64,22 +65,26 @@ fn are_of_gas(properties: [u128; 6], conditions: &Conditions) -> bool {
         && w == index(hs as u64, d as u64).into()
 }
 
-/// Whether energies, each as whole MJ and rest, can be those of a volume: every
-/// dm³ was metered at an Hs and an Hi between floor and ceiling, Hi not above Hs.
-fn are_of_volume(energies: [u128; 4], volume: u128) -> bool {
-    let [superior, superior_rest, inferior, inferior_rest] = energies;
-    let (floors, ceilings) = (Properties::FLOORS, Properties::CEILINGS);
-    let mega = u128::from(MEGAJOULE);
-    let has = |floor: u64, ceiling: u64, energy| {
-        (volume * u128::from(floor)..=volume * u128::from(ceiling)).contains(&energy)
-    };
-    let superior = superior * mega + superior_rest;
-    let inferior = inferior * mega + inferior_rest;
-    superior_rest < mega
-        && inferior_rest < mega
-        && has(floors.hs, ceilings.hs, superior)
-        && has(floors.hi, ceilings.hi, inferior)
-        && inferior <= superior
+/// Whether registers, each as whole and rest, can be those of a volume: every
+/// dm³ was metered at an Hs, an Hi and a rho between floor and ceiling, Hi not
+/// above Hs.
+fn are_of_volume(registers: [u128; 6], volume: u128) -> bool {
+    let [s_whole, s_rest, i_whole, i_rest, m_whole, m_rest] = registers;
+    let (low, high) = (Properties::FLOORS, Properties::CEILINGS);
+    let amount = |whole, rest, parts, limits| amount(whole, rest, parts, volume, limits);
+    let superior = amount(s_whole, s_rest, MEGAJOULE, [low.hs, high.hs]);
+    let inferior = amount(i_whole, i_rest, MEGAJOULE, [low.hi, high.hi]);
+    let mass = amount(m_whole, m_rest, KILOGRAM, [low.rho, high.rho]);
+    superior.is_some() && inferior.is_some() && mass.is_some() && inferior <= superior
+}
+
+/// What a register of wholes of so many parts holds, where its rest is below a
+/// whole, and each dm³ of the volume can have added between the given limits.
+fn amount(whole: u128, rest: u128, parts: u64, volume: u128, limits: [u64; 2]) -> Option<u128> {
+    let parts = u128::from(parts);
+    let amount = whole * parts + rest;
+    let [low, high] = limits.map(|limit| volume * u128::from(limit));
+    (rest < parts && (low..=high).contains(&amount)).then_some(amount)
 }
 
 fn permitted(combustion: u128, metering: u128) -> Option<Conditions> {
@@ -93,9 +98,8 @@ pub fn meter_of(words: &Words) -> Meter {
 }
 
 fn stream_of(row: [u64; STREAM_WORDS]) -> Stream {
-    let [analysed, combustion, metering, z, hs, hi, rho, d, w, volume, energies @ ..] = row;
-    let [superior, superior_rest, inferior, inferior_rest] = energies;
-    let energy = |whole, rest| Energy { whole, rest };
+    let [analysed, combustion, metering, z, hs, hi, rho, d, w, volume, registers @ ..] = row;
+    let [s_whole, s_rest, i_whole, i_rest, m_whole, m_rest] = registers;
     let in_force = InForce {
         pair: (combustion as u8, metering as u8),
         six: [z, hs, hi, rho, d, w].map(|property| property as u32),
@@ -103,7 +107,12 @@ fn stream_of(row: [u64; STREAM_WORDS]) -> Stream {
     Stream {
         in_force: (analysed == 1).then_some(in_force),
         volume,
-        superior: energy(superior, superior_rest),
-        inferior: energy(inferior, inferior_rest),
+        superior: register(s_whole, s_rest),
+        inferior: register(i_whole, i_rest),
+        mass: register(m_whole, m_rest),
     }
+}
+
+fn register<const WHOLE: u64>(whole: u64, rest: u64) -> Register<WHOLE> {
+    Register { whole, rest }
 }
