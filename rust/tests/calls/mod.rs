@@ -94,7 +94,8 @@ impl TakesCalls for loonstool::Meter {
 }
 
 /// Lists of calls, each from a fresh meter: K9; each of 13 to 18, some where a later condition of the order holds too; the carry from the
-/// rest to the whole MJ, of the superior energy and then of the inferior one; two gases on one stream; and a stream that is full.
+/// rest to the whole MJ, of the superior energy and then of the inferior one, and from the rest to the whole kg; two gases on one stream;
+/// and a stream that is full.
 #[rustfmt::skip]
 pub fn lists() -> Vec<Vec<Call>> {
     let (m, r) = (|k, volume| call(b'm', k, volume), |k| call(b'r', k, 0));
@@ -107,7 +108,7 @@ pub fn lists() -> Vec<Vec<Call>> {
         vec![analysis(16, " no record", &[]), m(16, 10_000_001), r(usize::MAX)],
         vec![m(15, u64::MAX), m(15, 10_000_000), k2(15), m(15, 10_000_001), m(15, 0), r(15), m(15, 10_000_000), r(15), r(14)],
         vec![k2(3), at_0(3), little(3), at_0(4), m(3, 27), m(4, 27), r(3), r(4)],
-        vec![k2(7), m(7, 26), r(7), nitrogen(7), m(7, 1), r(7), m(7, 4), r(7)],
+        vec![k2(7), m(7, 26), r(7), nitrogen(7), m(7, 1), r(7), m(7, 4), r(7), m(7, 1_176), r(7), m(7, 1), r(7)],
         vec![k2(9), call(b'f', 9, 0), r(9), m(9, 10_000_000), m(9, 9_999_999), m(9, 1), m(9, 10_000_001), m(9, 0), r(9)],
     ]
 }
@@ -127,7 +128,7 @@ pub fn input(list: &[Call]) -> Vec<u8> {
 }
 
 /// What a fresh meter answers to a list. The tally answers the same, and no energy is further than 2 mJ per dm³ from the exact one, no
-/// mean further than 3 J/m³.
+/// mass further than 2 × 10^-11 kg per dm³, no mean further than 3 J/m³.
 pub fn printed(list: &[Call]) -> String {
     let (mut meter, mut tally) = (Meter::fresh(), Tally::fresh());
     let mut text = String::new();
@@ -177,6 +178,7 @@ fn text_of(totals: Totals) -> String {
     format!("{} dm3", totals.volume)
         + &energy("superior", totals.superior_mj, totals.superior_rest)
         + &energy("inferior", totals.inferior_mj, totals.inferior_rest)
+        + &format!(", mass {} kg {} e-11 kg", totals.mass_kg, totals.mass_rest)
 }
 
 /// The words for a call that is accepted or refused.
