@@ -1,5 +1,6 @@
 //! Times the properties of a record in one process: of the proved library, of
-//! the plain version in Rust, and of c/doubles.c.
+//! the plain version in Rust, and of c/doubles.c; and its values per kilogram,
+//! of the first two.
 //!
 //! `cargo bench --offline --bench ratio`
 
@@ -10,7 +11,7 @@ mod plain;
 mod timing;
 
 use cases::{every_line, record, K1};
-use loonstool::{Properties, Refusal};
+use loonstool::{PerKilogram, Properties, Refusal};
 use std::hint::black_box;
 use std::time::{Duration, Instant};
 use timing::{goal, percentile, ratios, Side, REPETITIONS};
@@ -36,9 +37,22 @@ const SIDES: [Call; 3] = [
     },
 ];
 
+/// The same for the values per kilogram, library and plain Rust.
+const PER_KILOGRAM: [Call; 2] = [
+    &|record| used_values(loonstool::per_kilogram(record).map_err(Refusal::number)),
+    &|record| used_values(through(plain::per_kilogram)(record)),
+];
+
 fn used(answer: Result<Properties, u8>) {
     match answer {
         Ok(p) => plain::six(&p).iter().for_each(|n| _ = black_box(*n)),
+        Err(number) => _ = black_box(number),
+    }
+}
+
+fn used_values(answer: Result<PerKilogram, u8>) {
+    match answer {
+        Ok(values) => _ = (black_box(values.superior), black_box(values.inferior)),
         Err(number) => _ = black_box(number),
     }
 }
@@ -70,7 +84,11 @@ fn main() {
         "{:<32} {:>6} {:>8} {:>8} {:>8}   {:<26} library / C doubles",
         "record", "answer", "library", "Rust", "C", "library / plain Rust"
     );
-    let [k1, all, ..] = measured().map(|(name, record)| row(name, &record));
+    let measured = measured();
+    let [k1, all, ..] = measured.each_ref().map(|(name, record)| row(name, record));
+    for (name, record) in &measured[..2] {
+        row_per_kilogram(name, record);
+    }
     goal("K1 no slower than plain Rust, 0.03 for noise", k1, 1.03);
     goal("55 lines at most 1.25 times plain Rust", all, 1.25);
 }
@@ -103,7 +121,19 @@ fn row(name: &str, record: &[u8]) -> f64 {
         }
         Err(number) => (number.to_string(), &SIDES[..2]),
     };
-    let ns = measure(record, sides);
+    print_row(name, &answer, &measure(record, sides))
+}
+
+/// The same for the values per kilogram of an accepted record.
+fn row_per_kilogram(name: &str, record: &[u8]) {
+    let library = loonstool::per_kilogram(record).map_err(Refusal::number);
+    assert_eq!(library, plain::per_kilogram(record));
+    let ns = measure(record, &PER_KILOGRAM);
+    print_row(&format!("{name}, per kilogram"), "two", &ns);
+}
+
+/// Prints the figures of the sides, and answers the ratio of the first to the second.
+fn print_row(name: &str, answer: &str, ns: &[Vec<f64>]) -> f64 {
     print!("{name:<32} {answer:>6}");
     for side in 0..SIDES.len() {
         match ns.get(side) {
