@@ -32,7 +32,7 @@
  * Words that were restored go through loonstool_meter_check. It refuses a property above its ceiling or below its floor, which no accepted
  * record's is, an Hi above Hs, a rho that differs by more than 5 units from d times the density of air, a Wobbe index that is not that of
  * Hs and d, a pair that is not permitted, a stream without an analysis that is not 0 everywhere, a volume total above 999,999,999,999 dm3,
- * of each energy, superior and inferior, a rest of 10^9 mJ or more, of the mass one of 10^11 x 10^-11 kg or more, and of each of the three
+ * of each energy, superior and inferior, a rest of 10^9 mJ or more, of the mass a rest of 1 kg or more, and of each of the three
  * an amount that the volume cannot have; and an inferior energy above the superior one. It cannot find a damage after which all of this
  * holds, as it may after a flipped bit of a volume total: that takes a checksum. Words kept by one version of the library go into another
  * where LOONSTOOL_STREAMS and LOONSTOOL_STREAM_WORDS are the same; before an update to one with other numbers the totals are read out.

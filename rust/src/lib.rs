@@ -109,7 +109,7 @@ impl Properties {
     };
 }
 
-/// The calorific values of a gas per kilogram. They depend on the combustion temperature alone of the two.
+/// The calorific values of a gas per kilogram. Of a record's two temperatures only the combustion one matters.
 #[derive(Debug, Clone, Copy, PartialEq, Eq)]
 #[repr(C)]
 pub struct PerKilogram {
