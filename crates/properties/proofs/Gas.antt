@@ -18,7 +18,7 @@ use Rattle.components.proofs.SumLaws.{sum-is-sizes}
 use Rattle.components.proofs.AllLines.{sums-run-over-all-lines}
 use Rattle.components.proofs.Bounds.{methane-bounds, inferior-below, heat-by-mass}
 use Rattle.records.specs.Order.{accepted, mapped}
-use Rattle.records.specs.Format.{Contents}
+use Rattle.records.specs.Format.{Contents, contents}
 use Rattle.records.specs.Calls.{readingOf}
 use Rattle.records.specs.Accepted.{Acceptable}
 use Rattle.records.proofs.Accepted.{accepted-is-acceptable}
@@ -27,7 +27,7 @@ use Rattle.properties.specs.Unrounded as unrounded
 use Rattle.properties.specs.Quantities.{calorificBound, densityBound, relativeBound, wobbeBound, Bounded}
 use Rattle.properties.specs.Bounds.{divisorLow, divisorHigh, airLow, airHigh, compressionLow, calorificLow, idealCalorificHigh, calorificHigh, densityLow, relativeLow, idealRelativeHigh, idealHigh, wobbeLow, Floored, Proper, DensityByAir}
 use Rattle.properties.specs.Distances.{Indexed, Distances}
-use Rattle.properties.specs.PerKilogram.{perKilogram, unroundedPerKilogram, massBasisOf, massDistance, MassShown, AlikeButMetering, MeteringDoesNotMatter}
+use Rattle.properties.specs.PerKilogram.{perKilogram, unroundedPerKilogram, massBasisOf, massDistance, MassShown, MeteringDoesNotMatter}
 use Rattle.properties.specs.Accepted.{Amounts, Squares, EveryAcceptedRecord}
 use Rattle.properties.proofs.Approximations.{z-low, z-within, real-within}
 use Rattle.properties.proofs.Index.{indexed}
@@ -301,9 +301,10 @@ every-accepted-record bs k e =
     }
 
 -- a value per kilogram is made of the combustion temperature, the lines and the fractions
-same-masses : {k l : Contents} → AlikeButMetering k l → massBasisOf k ≡ massBasisOf l
+same-masses : (combustion m n : ℕ) (ls xs : List ℕ) → massBasisOf (contents combustion m ls xs) ≡ massBasisOf (contents combustion n ls xs)
 unfolding HmSuperior HmInferior M
-same-masses h = rw (h .combustion, h .lines, h .fractions)
+same-masses combustion m n ls xs = refl
 
 pub metering-does-not-matter : MeteringDoesNotMatter
-metering-does-not-matter bs cs k l eb ec h = ap (mapped massBasisOf) eb ∙ ap accepted (same-masses h) ∙ sym (ap (mapped massBasisOf) ec)
+metering-does-not-matter bs cs combustion m n ls xs eb ec =
+    ap (mapped massBasisOf) eb ∙ ap accepted (same-masses combustion m n ls xs) ∙ sym (ap (mapped massBasisOf) ec)

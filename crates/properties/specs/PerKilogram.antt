@@ -7,7 +7,7 @@ use lib.ListN.{take}
 use Rattle.rounding.specs.Near.{near}
 use Rattle.rounding.specs.Fraction.{Fraction, Within, _over_, half}
 use Rattle.records.specs.Order.{Outcome, accepted, mapped}
-use Rattle.records.specs.Format.{Contents}
+use Rattle.records.specs.Format.{Contents, contents}
 use Rattle.records.specs.Calls.{readingOf, enough}
 use Rattle.properties.specs.Chain.{HmSuperior, HmInferior, M}
 use Rattle.properties.specs.Unrounded as unrounded
@@ -53,13 +53,8 @@ pub record MassShown (bs : List ℕ) (k : Contents) (v : MassBasis) : Type 0 whe
   pub superior-within : Within massDistance (v .superior) (unroundedPerKilogram (unrounded.HmSuperior k) (unrounded.M k))
   pub inferior-within : Within massDistance (v .inferior) (unroundedPerKilogram (unrounded.HmInferior k) (unrounded.M k))
 
--- alike but for the metering temperature
-pub record AlikeButMetering (k l : Contents) : Type 0 where
-  pub combustion : k .combustion ≡ l .combustion
-  pub lines : k .lines ≡ l .lines
-  pub fractions : k .fractions ≡ l .fractions
-
 -- two accepted records that are alike but for the metering temperature have the same two values
 abbrev pub MeteringDoesNotMatter : Type 0
 MeteringDoesNotMatter =
-    (bs cs : List ℕ) (k l : Contents) → readingOf bs ≡ accepted k → readingOf cs ≡ accepted l → AlikeButMetering k l → perKilogramOf bs ≡ perKilogramOf cs
+    (bs cs : List ℕ) (combustion m n : ℕ) (ls xs : List ℕ) → readingOf bs ≡ accepted (contents combustion m ls xs) →
+    readingOf cs ≡ accepted (contents combustion n ls xs) → perKilogramOf bs ≡ perKilogramOf cs
