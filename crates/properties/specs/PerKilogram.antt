@@ -38,10 +38,16 @@ perKilogramOf bs = mapped massBasisOf (readingOf bs)
 abbrev pub FirstBytesDecidePerKilogram : Type 0
 FirstBytesDecidePerKilogram = (bs : List ℕ) → perKilogramOf (take enough bs) ≡ perKilogramOf bs
 
--- the most that a value differs from the unrounded quotient: half of its unit, 5 J/kg, since it is rounded once. A gas on a half is as far
--- off (`halfGas` in Cases.antt), so no smaller distance is true
+-- the most that a value differs from the unrounded quotient: half of its unit, 5 J/kg, since it is rounded once
 abbrev pub massDistance : Fraction
 massDistance = half
+
+-- no smaller distance is true: one that the superior value of every accepted record keeps is not below it (`halfGas` in Cases.antt)
+abbrev pub NoSmallerDistance : Type 0
+NoSmallerDistance =
+    (t : Fraction) →
+    ((bs : List ℕ) (k : Contents) → readingOf bs ≡ accepted k →
+    Within t (massBasisOf k .superior) (unroundedPerKilogram (unrounded.HmSuperior k) (unrounded.M k))) → massDistance .num * t .den ≤ t .num * massDistance .den
 
 -- what is shown of a record that reads as k: the call answers its two values, neither passes its ceiling, the inferior one is not above
 -- the superior one, and each is within its distance
