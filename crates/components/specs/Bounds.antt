@@ -1,5 +1,5 @@
 -- Bounds of the sums of a composition with the least fraction of methane or more, whatever its other lines are; and the order of Hm,
--- inferior and superior, and the most that Hm is beside M, of any composition.
+-- inferior and superior, and the most that Hm / M comes to, of any composition.
 use mathlib.Core.List.{List}
 use Prim.Native.Nat.{ℕ, _*_, _≤_, _<_}
 use lib.IntN.{natAbs}
@@ -20,7 +20,7 @@ massLow = 80000000000
 abbrev pub massHigh : ℕ
 massHigh = 800000000000
 
--- Hm beside M, of any composition, unit 10^6 of 10 J/kg: hydrogen alone comes to some 14.2
+-- the most that Hm / M comes to, of any composition, unit 10 MJ/kg: hydrogen alone comes to some 14.2
 abbrev pub heatByMass : ℕ
 heatByMass = 15
 

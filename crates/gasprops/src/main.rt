@@ -1,5 +1,5 @@
-// Reads one analysis record from standard input and prints its six properties or, where its argument is `--per-kilogram`, its two calorific
-// values per kilogram in units of 10 J/kg; of a refused record `refused ` and the number.
+// Reads one analysis record from standard input and prints its six properties or, where its argument is `--per-kilogram`, its two
+// calorific values per kilogram in units of 10 J/kg; of a refused record `refused ` and the number.
 //
 // It reads until the input ends, and never more than 284 bytes, one more than the longest record has: 8 + 5 × 55 = 283. They decide
 // what a longer input gives, whatever follows: conditions 2 to 5 look at the first 8 bytes, and a length above 283 breaks condition 6

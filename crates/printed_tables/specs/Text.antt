@@ -1,6 +1,6 @@
 -- The calculated figures of annex D after the rows of table D.1, six to a row: the last row of table D.1, and D.1 to D.4.3.
 use mathlib.Core.List.{List, [], _∷_}
-use Prim.Native.Nat.{ℕ, _*_, _/_, _%_, _^_}
+use Prim.Native.Nat.{ℕ, _/_, _%_, _^_}
 use lib.ListN.{getD}
 use Rattle.rounding.specs.Near.{near}
 use Rattle.properties.specs.Chain.{D, Six, idealCalorific, idealDensity, idealRelative, rootOf, wobbe}

@@ -1,5 +1,5 @@
--- The gas of every accepted record: its sums and steps within their bounds, its properties between their floors and ceilings and within their
--- distances.
+-- The gas of every accepted record: its sums and steps within their bounds, its properties between their floors and ceilings and within
+-- their distances, and the same of its values per kilogram.
 use mathlib.Core.Path.{_≡_, refl, sym, ap, _∙_}
 use mathlib.Core.List.{List}
 use mathlib.Core.Logic.{inl, inr}

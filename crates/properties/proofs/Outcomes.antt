@@ -1,4 +1,4 @@
--- What a call on a record gives, from the number of the first condition that holds: of the properties and of the values per kilogram alike.
+-- What a call on a record gives, properties or values per kilogram, from the number of the first condition that holds.
 use mathlib.Core.Path.{_≡_, sym, ap, _∙_}
 use mathlib.Core.List.{List}
 use Prim.Native.Nat.{ℕ}

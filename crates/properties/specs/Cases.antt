@@ -81,8 +81,8 @@ methane c m = contents c m (1 ∷ []) (1000000 ∷ [])
 abbrev pub halfGas : ℕ → ℕ → Contents
 halfGas c m = contents c m (1 ∷ 2 ∷ 52 ∷ []) (905709 ∷ 60753 ∷ 33538 ∷ [])
 
--- Gases and their values per kilogram: methane at each combustion temperature, at 15 °C as document 02 prints it; the gas of annex D at every
--- permitted pair; a gas on a half. `cargo run --example expected -- kilograms` in rust/ prints the rows.
+-- Gases and their values per kilogram: methane at each combustion temperature, at 15 °C as document 02 prints it; the gas of annex D at
+-- every permitted pair; three of the gases above; a gas on a half. `cargo run --example expected -- kilograms` in rust/ prints the rows.
 abbrev pub massGases : List (Contents × MassBasis)
 massGases =
     (methane 25 0, per 5551518 5002805)

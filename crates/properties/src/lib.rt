@@ -1,5 +1,5 @@
-// The six properties of a gas from its analysis record, by document 01, and its calorific values per kilogram, by request W-202 of document
-// 02. Every list of bytes gets its answer, or the one number that reading it gives.
+// The six properties of a gas from its analysis record, by document 01, and its calorific values per kilogram, by request W-202 of
+// document 02. Every list of bytes gets its answer, or the one number that reading it gives.
 ghost use mathlib.Core.Path.{_≡_};
 ghost use Rattle.records.specs.Order.{firstOf};
 ghost use Rattle.records.specs.Format.{contentsIn};

@@ -1,5 +1,6 @@
-// The properties and the calorific value per kilogram as quantities. SCALE is how many of the quantity's unit make 1 of the standard's, BOUND the ceiling that no value
-// passes, FLOOR what no property of an accepted record is below. Every ceiling is below 2^32, so a value is kept in 32 bits.
+// The properties and the calorific value per kilogram as quantities. SCALE is how many of the quantity's unit make 1 of the standard's,
+// BOUND the ceiling that no value passes, FLOOR what no property of an accepted record is below. Every ceiling is below 2^32, so a value
+// is kept in 32 bits.
 ghost use mathlib.Core.Path.{_≡_};
 ghost use Prim.Native.Nat.{_≤_};
 ghost use Rattle.properties.specs.Quantities.{compressionBound, calorificBound, densityBound, relativeBound, wobbeBound, massCalorificBound, scales, bounds};

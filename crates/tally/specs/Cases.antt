@@ -1,5 +1,5 @@
--- The cases K1 to K10 of document 01, and a computed one of the inferior energy and the mass, as one list, and one test over the definitions
--- that computes to true over the whole list. Values per kilogram stand in crates/properties/specs/Cases.antt.
+-- The cases K1 to K10 of document 01, and a computed one of the inferior energy and the mass, as one list, and one test over the
+-- definitions that computes to true over the whole list. Values per kilogram stand in crates/properties/specs/Cases.antt.
 use mathlib.Core.Path.{_≡_}
 use mathlib.Core.Bool.{Bool, true, _&&_}
 use mathlib.Core.List.{List, [], _∷_}
@@ -46,8 +46,8 @@ abbrev pub eachNumber : List on-record.Case → List Case → List Case
 eachNumber [] more = more
 eachNumber (c ∷ cs) more = number c ∷ eachNumber cs more
 
--- K2's totals after 1,000 dm³: volume and superior energy are K9's, the inferior energy and the mass are computed; and after 2,000 dm³, where
--- the rest of the mass has passed 10^11
+-- K2's totals after 1,000 dm³: volume and superior energy are K9's, the inferior energy and the mass are computed; and after 2,000 dm³,
+-- where the mass has passed 1 kg
 abbrev pub after1000 : Totals
 after1000 =
     record {

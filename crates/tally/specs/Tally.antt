@@ -14,8 +14,7 @@ use Rattle.records.specs.Conditions.{recordOrder}
 use Rattle.properties.specs.Chain.{Hs, Hi, rho}
 use Rattle.properties.specs.Unrounded as unrounded
 
--- the last stream; the most that one metering call adds, and that a volume total comes to, in dm³; mJ in 1 MJ, and 10^-11 kg
--- in 1 kg
+-- the last stream; the most that one metering call adds, and that a volume total comes to, in dm³; mJ in 1 MJ, and 10^-11 kg in 1 kg
 abbrev pub lastStream : ℕ
 lastStream = 15
 
@@ -186,8 +185,8 @@ leftBy (metering v) s = meteredBy (s .inForce) v s
 leftBy totals s = s
 leftBy (mean e) s = s
 
--- what an accepted call answers: totals give V, the E of each energy as whole MJ and rest, and that of the mass as whole kg and rest; a mean
--- gives near(E / V)
+-- what an accepted call answers: totals give V, the E of each energy as whole MJ and rest, and that of the mass as whole kg and rest;
+-- a mean gives near(E / V)
 abbrev pub givenBy : Ask → StreamTally → Given
 givenBy (analysis bs) s = done
 givenBy (metering v) s = done
