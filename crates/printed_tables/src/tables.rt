@@ -2,7 +2,7 @@
 ghost use mathlib.Core.Path.{_≡_};
 ghost use Prim.Native.Nat.{_≤_, _<_};
 ghost use lib.ListN.{length};
-ghost use Rattle.printed_tables.specs.Figures.{numberOf, scaleOf, onMass, perCubicMetre};
+ghost use Rattle.printed_tables.specs.Figures.{numberOf, scaleOf, perKilogram, perCubicMetre};
 ghost use Rattle.printed_tables.specs.Parts.{figuresIn};
 use super::parts;
 use super::places;
@@ -43,7 +43,7 @@ pub fn scale(table: u8, line: usize) -> u64
 // The figures of a line in a column.
 pub fn per_kilogram(line: usize, column: usize) -> u64
     requires { ⌜ (1 ≤ line) × (line ≤ 55) × (column < 8) ⌝ }
-    ensures { λ r. ⌜ r ≡ onMass line column ⌝ }
+    ensures { λ r. ⌜ r ≡ perKilogram line column ⌝ }
 {
     let h = number(line, H_25 + column);
     let m = number(line, M);
