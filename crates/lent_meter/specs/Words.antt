@@ -1,6 +1,6 @@
 -- A meter as the words that a caller lends: a row of 16 words for each of the 16 streams.
 use mathlib.Core.List.{List, [], _∷_, map}
-use Prim.Native.Nat.{ℕ}
+use Prim.Native.Nat.{ℕ, _+_}
 use lib.ListN.{getD, set}
 use Rattle.properties.specs.Chain.{Six}
 use Rattle.properties.specs.Answers.{numbers, quantities}
@@ -68,14 +68,14 @@ totalsIn row =
       mass = record { whole = getD row 14 0; rest = getD row 15 0 };
     }
 
--- a row with another gas, and one with other totals; every other word as it was
+-- a row with words in it from the i-th on, every other word as it was
+abbrev pub wordsFrom : List ℕ → ℕ → List ℕ → List ℕ
+wordsFrom row i [] = row
+wordsFrom row i (w ∷ ws) = wordsFrom (set row i w) (i + 1) ws
+
+-- a row with another gas, and one with other totals
 abbrev pub withGasWords : List ℕ → ℕ → ℕ → Six → List ℕ
-withGasWords row combustion metering p =
-    set (set (set (set (set (set (set (set (set row 0 1) 1 combustion) 2 metering) 3 (p .Z)) 4 (p .Hs)) 5 (p .Hi)) 6 (p .rho)) 7 (p .d)) 8 (p .W)
+withGasWords row combustion metering p = wordsFrom row 0 (gasWords combustion metering p [])
 
 abbrev pub withTotalsWords : List ℕ → StreamTotals → List ℕ
-withTotalsWords row t =
-    set
-    (set (set (set (set (set (set row 9 (t .volume)) 10 (t .superior .whole)) 11 (t .superior .rest)) 12 (t .inferior .whole)) 13 (t .inferior .rest)) 14 (t .mass .whole))
-    15
-    (t .mass .rest)
+withTotalsWords row t = wordsFrom row 9 (packedTotals t)
