@@ -51,7 +51,14 @@ mean-within m k l e sound b alike =
 
 -- a fresh meter beside a fresh tally
 fresh-alike : Alike freshStream freshStreamTally
-fresh-alike = record { inForce = nothing; pair = refl; volume = refl; energy = for-both (AlikeEnergy freshStream freshStreamTally) (none perMJ (omega arith)) (none perMJ (omega arith)); mass = none perKg (omega arith) }
+fresh-alike =
+    record {
+      inForce = nothing;
+      pair = refl;
+      volume = refl;
+      energy = for-both (AlikeEnergy freshStream freshStreamTally) (none perMJ (omega arith)) (none perMJ (omega arith));
+      mass = none perKg (omega arith);
+    }
   where
     none : (u : ℕ) → 0 < u → AlikeRegister u 0 nothingBooked noAccount
     none u some = record { rest = some; amount = omega arith; within = omega arith }
