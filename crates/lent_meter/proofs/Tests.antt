@@ -168,7 +168,7 @@ register-holds u floor ceiling v e least most some low high = go (ltb (e .rest) 
         }
     go false h = tells-false (λ s. omega (arith, ltb-false (e .rest) u h, s .rest))
 
--- totals, from the test of each energy
+-- totals, from the test of each register
 pub totals-hold : (t : StreamTotals) (s i m : Bool) → t .volume ≤ mostTotal → Tells s (SoundEnergy (t .volume) (t .superior)) → Tells i (SoundEnergy (t .volume) (t .inferior)) →
     Tells m (SoundMass (t .volume) (t .mass)) → Tells (s && i && m && atMost (t .inferior) (t .superior)) (SoundTotals t)
 totals-hold t true true true low h g w =

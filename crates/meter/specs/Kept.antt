@@ -41,7 +41,7 @@ MeteringLeavesOthers =
 abbrev pub ZeroIsAccepted : Type 0
 ZeroIsAccepted = (m : Meter) (k : ℕ) → Sound m → k ≤ lastStream → noAnalysis (streamAt m k .analysis) ≡ false → firstOf (meteringOrder k 0 (streamAt m k)) ≡ 0
 
--- The parts of every register fit 64 bits, and so does what one call books. A whole amount need not, and no call forms it in one number:
+-- The parts of every register fit 64 bits, and so does what one call books. Both parts in one number need not, and no call forms it:
 -- 999,999,999,999 dm³ at the ceiling of rho are some 5.1 × 10^20 of 10^-11 kg.
 pub record PartsFit (e : Register) : Type 0 where
   pub whole : e .whole < 2 ^ 64

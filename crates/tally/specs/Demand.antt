@@ -45,7 +45,7 @@ pub data AcceptedIn (bs : List ℕ) : List Call → List Answer → Type 0 where
   here : (k : ℕ) (cs : List Call) (rs : List Answer) → AcceptedIn bs (on k (analysis bs) ∷ cs) (accepted done ∷ rs)
   later : (c : Call) (a : Answer) (cs : List Call) (rs : List Answer) → AcceptedIn bs cs rs → AcceptedIn bs (c ∷ cs) (a ∷ rs)
 
--- what a record reads as, with its properties, their ceilings and their distances from the unrounded formula
+-- what a record reads as, with its properties and values per kilogram, their ceilings and their distances from the unrounded formula
 pub record AnalysisShown (bs : List ℕ) : Type 0 where
   pub contents : Contents
   pub reads : readingOf bs ≡ accepted contents
