@@ -1,6 +1,8 @@
 //! Times the library's meter against the plain meter in one process, both
 //! changed in place, each side one call through an address: the archive's
-//! functions are called so, and those of the plain meter here too.
+//! functions are called so, and those of the plain meter here too. A metering
+//! call takes some ns, and where the loop around it stands in memory moves that
+//! by 15 percent either way, so one loop makes the calls of both sides.
 //!
 //! `cargo bench --offline --bench meter`
 
@@ -11,8 +13,9 @@ mod plain;
 mod timing;
 
 use cases::{every_line, record, K1};
-use loonstool::STREAMS;
+use loonstool::{Meter, Words, STREAMS};
 use plain::words::words_of;
+use std::ffi::c_void;
 use std::hint::black_box;
 use timing::{goal, percentile, ratios, Side, REPETITIONS};
 
@@ -76,9 +79,33 @@ impl Meters {
     }
 }
 
+/// A metering call of either side: a meter, a stream and a volume, and the number
+/// of its refusal, 0 for none.
+type Metering = unsafe extern "C" fn(*mut c_void, usize, u64) -> u8;
+
+extern "C" {
+    fn loonstool_meter_metering(words: *mut c_void, stream: usize, volume: u64) -> u8;
+}
+
+/// That of the plain meter.
+///
+/// # Safety
+/// The pointer is to a plain meter that nothing else borrows.
+unsafe extern "C" fn plain_metering(meter: *mut c_void, stream: usize, volume: u64) -> u8 {
+    let meter = unsafe { &mut *meter.cast::<plain::Meter>() };
+    meter.metering(stream, volume).err().unwrap_or(0)
+}
+
+/// Makes calls of a side, those of the list over and over.
+///
+/// # Safety
+/// The meter is one of that side, and nothing else borrows it.
 #[inline(never)]
-fn metering_called(meter: &mut plain::Meter, stream: usize, volume: u64) -> Result<(), u8> {
-    meter.metering(stream, volume)
+unsafe fn repeat(call: Metering, meter: *mut c_void, list: &[(usize, u64)], calls: u32) {
+    for (stream, volume) in list.iter().cycle().take(calls as usize) {
+        let number = unsafe { call(meter, *stream, *volume) };
+        assert_eq!(number, 0, "the volume is accepted");
+    }
 }
 
 #[inline(never)]
@@ -90,25 +117,21 @@ fn metering() -> f64 {
     let list: Vec<_> = (0..LIST)
         .map(|i| (i as usize % STREAMS, i % 1_000))
         .collect();
-    let repeated = |calls: u32| black_box(&list).iter().cycle().take(calls as usize);
     let mut meters = Meters::analysed();
-    let Meters { library, plain } = &mut meters;
-    let called: fn(&mut plain::Meter, usize, u64) -> Result<(), u8> = black_box(metering_called);
-    let of_library: Side = Box::new(|calls| {
-        for (stream, volume) in repeated(calls) {
-            let accepted = library.metering(*stream, *volume);
-            accepted.expect("the volume is accepted");
-        }
-    });
-    let of_plain: Side = Box::new(|calls| {
-        for (stream, volume) in repeated(calls) {
-            let accepted = called(plain, *stream, *volume);
-            accepted.expect("the volume is accepted");
-        }
-    });
+    let mut words: Words = *meters.library.words();
+    let library: *mut c_void = (&raw mut words).cast();
+    let plain: *mut c_void = (&raw mut meters.plain).cast();
+    let side = |call: Metering, meter: *mut c_void| -> Side {
+        let (call, list) = (black_box(call), black_box(&list));
+        // SAFETY: the words hold a meter, and both meters are touched by these calls alone until the times are taken.
+        Box::new(move |calls| unsafe { repeat(call, meter, list, calls) })
+    };
+    let of_library = side(loonstool_meter_metering, library);
+    let of_plain = side(plain_metering, plain);
     let mut sides = [of_library, of_plain].map(|side| (METERING_CALLS, side));
     let ns = timing::measure(&mut sides);
     drop(sides);
+    meters.library = Meter::from_words(words).expect("the words hold a meter");
     meters.row("metering", &ns)
 }
 
