@@ -8,7 +8,7 @@ ghost use Rattle.io.specs.Counts.{Counts};
 use libc::STDERR_FILENO;
 use libc::STDIN_FILENO;
 use properties::Answer;
-use properties::MassAnswer;
+use properties::PerKilogramAnswer;
 use properties::PerKilogram;
 use properties::Properties;
 use report::print_line;
@@ -66,10 +66,10 @@ fn print_per_kilogram(v: PerKilogram) -> bool {
 }
 
 // The two lines of the values per kilogram, or the one line of a refusal. It answers whether all of it was written.
-fn print_mass_answer(answer: MassAnswer) -> bool {
+fn print_per_kilogram_answer(answer: PerKilogramAnswer) -> bool {
     match answer {
-        MassAnswer::Accepted(v) => print_per_kilogram(v),
-        MassAnswer::Refused(number) => print_line(b"refused", number as u64),
+        PerKilogramAnswer::Accepted(v) => print_per_kilogram(v),
+        PerKilogramAnswer::Refused(number) => print_line(b"refused", number as u64),
     }
 }
 
@@ -83,7 +83,7 @@ fn is_per_kilogram() -> bool {
 // Prints what is asked for of a record. It answers whether all of it was written.
 fn print_asked(per_kilogram: bool, bytes: &[u8]) -> bool {
     if per_kilogram {
-        return print_mass_answer(properties::per_kilogram_of(bytes));
+        return print_per_kilogram_answer(properties::per_kilogram_of(bytes));
     }
     print_answer(properties::properties_of(bytes))
 }

@@ -35,8 +35,8 @@ abbrev pub inOrder : Six → List ℕ
 inOrder p = p .Z ∷ p .Hs ∷ p .Hi ∷ p .rho ∷ p .d ∷ p .W ∷ []
 
 -- the superior and the inferior value per kilogram
-abbrev pub bothValues : MassBasis → List ℕ
-bothValues v = v .superior ∷ v .inferior ∷ []
+abbrev pub perKilogramInOrder : MassBasis → List ℕ
+perKilogramInOrder v = v .superior ∷ v .inferior ∷ []
 
 -- an analysis in the places that a caller lends for its parts
 abbrev pub analysis : ℕ → ℕ → ℕ → List ℕ → List ℕ → Analysis

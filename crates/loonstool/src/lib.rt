@@ -3,7 +3,7 @@
 // may be refused gives 0, or document 01's number; a refusal leaves what the caller lent as it was.
 use lent_meter::Words;
 use properties::Answer;
-use properties::MassAnswer;
+use properties::PerKilogramAnswer;
 use properties::Properties;
 use records::Verdict;
 ghost use mathlib.Core.Path.{_≡_};
@@ -14,14 +14,14 @@ ghost use Rattle.records.specs.Calls.{readingOf, writingOf};
 ghost use Rattle.records.specs.Answers.{held, Returns};
 ghost use Rattle.properties.specs.Chain.{propertiesOf};
 ghost use Rattle.properties.specs.PerKilogram.{perKilogramOf};
-ghost use Rattle.properties.specs.Answers.{numbers, meaning, massMeaning};
+ghost use Rattle.properties.specs.Answers.{numbers, meaning, perKilogramMeaning};
 ghost use Rattle.meter.specs.declared.Meter.{Meter};
 ghost use Rattle.meter.specs.State.{freshMeter};
 ghost use Rattle.meter.specs.Calls.{analysisOf, meteringOf, totalsOf, meanOf, meanInferiorOf};
 ghost use Rattle.lent_meter.specs.Words.{packed, packedTotals};
 ghost use Rattle.lent_meter.specs.Lent.{Lent, OnWords, Leaves, OnReading};
 ghost use Rattle.lent_meter.specs.Check.{Tells};
-ghost use Rattle.loonstool.specs.Exports.{inOrder, bothValues, analysis};
+ghost use Rattle.loonstool.specs.Exports.{inOrder, perKilogramInOrder, analysis};
 
 // A meter as made.
 #[no_mangle]
@@ -120,12 +120,12 @@ pub extern "C" fn loonstool_properties_of(bytes: &[u8], properties: &mut [u64; 6
 }
 
 // The number of an answer, and its values per kilogram into lent memory.
-fn give_per_kilogram(answer: MassAnswer, values: &mut [u64; 2]) -> u8
-    ensures { λ r. ⌜ Returns (mapped bothValues (massMeaning answer)) (now (values .entry)) r (now (values .exit)) ⌝ }
+fn give_per_kilogram(answer: PerKilogramAnswer, values: &mut [u64; 2]) -> u8
+    ensures { λ r. ⌜ Returns (mapped perKilogramInOrder (perKilogramMeaning answer)) (now (values .entry)) r (now (values .exit)) ⌝ }
 {
     match answer {
-        MassAnswer::Refused(number) => number,
-        MassAnswer::Accepted(v) => {
+        PerKilogramAnswer::Refused(number) => number,
+        PerKilogramAnswer::Accepted(v) => {
             *values = [v.superior.value(), v.inferior.value()];
             0
         }
@@ -135,7 +135,7 @@ fn give_per_kilogram(answer: MassAnswer, values: &mut [u64; 2]) -> u8
 // The superior and the inferior calorific value per kilogram of a record, unit 10 J/kg.
 #[no_mangle]
 pub extern "C" fn loonstool_per_kilogram(bytes: &[u8], values: &mut [u64; 2]) -> u8
-    ensures { λ r. ⌜ Returns (mapped bothValues (perKilogramOf (now (bytes .entry)))) (now (values .entry)) r (now (values .exit)) ⌝ }
+    ensures { λ r. ⌜ Returns (mapped perKilogramInOrder (perKilogramOf (now (bytes .entry)))) (now (values .entry)) r (now (values .exit)) ⌝ }
 {
     give_per_kilogram(properties::per_kilogram_of(bytes), values)
 }

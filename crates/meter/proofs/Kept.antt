@@ -2,9 +2,8 @@
 use mathlib.Core.Path.{_≡_, refl, sym, subst, _∙_}
 use mathlib.Core.Bool.{Bool, true, false, cond}
 use mathlib.Core.List.{List}
-use mathlib.Core.Logic.{⊎-elim}
 use Prim.Native.Nat.{ℕ, zero, suc, _+_, _*_, _^_, _≤_, _<_}
-use native.Mathlib.Nat.{lt-trans, mul-le-mul}
+use native.Mathlib.Nat.{le-of-lt, lt-trans, mul-le-mul}
 use native.Mathlib.Omega.{arith}
 use borrow.Author.Tests.{le-ltb, ltb-false, eqb-false}
 use lib.Dec.{eqb}
@@ -140,10 +139,13 @@ parts-fit u floor ceiling v e some small most s = record { whole = whole-below u
 pub registers-fit : RegistersFit
 registers-fit =
     record {
-      superior = λ t s. energy (t .superior) (s .volume) (s .superior);
-      inferior = λ t s. energy (t .inferior) (s .volume) (s .inferior);
-      mass = λ t s. parts-fit perKg densityLow densityBound (t .volume) (t .mass) (omega arith) (omega arith) (omega (arith, s .volume)) (s .mass);
-      booking = λ v h low value. ⊎-elim (λ c. omega (arith, mul-le-mul low c)) (λ c. omega (arith, mul-le-mul low c)) value;
+      parts = λ t s.
+          record {
+            superior = energy (t .superior) (s .volume) (s .superior);
+            inferior = energy (t .inferior) (s .volume) (s .inferior);
+            mass = parts-fit perKg densityLow densityBound (t .volume) (t .mass) (omega arith) (omega arith) (omega (arith, s .volume)) (s .mass);
+          };
+      booking = λ v h low value. omega (arith, mul-le-mul low (le-of-lt value));
     }
   where
     energy : {v : ℕ} (e : Register) → v ≤ mostTotal → SoundEnergy v e → PartsFit e

@@ -3,12 +3,11 @@
 use mathlib.Core.Path.{_≡_}
 use mathlib.Core.Bool.{false}
 use mathlib.Core.List.{List}
-use mathlib.Core.Logic.{_⊎_}
 use Prim.Native.Nat.{ℕ, _*_, _^_, _≤_, _<_}
 use Rattle.records.specs.declared.Verdict.{Verdict}
 use Rattle.records.specs.Order.{Outcome, accepted, firstOf}
 use Rattle.records.specs.Answers.{Gives}
-use Rattle.properties.specs.Quantities.{calorificBound, densityBound}
+use Rattle.properties.specs.Quantities.{calorificBound}
 use Rattle.meter.specs.declared.Register.{Register}
 use Rattle.meter.specs.declared.StreamTotals.{StreamTotals}
 use Rattle.meter.specs.declared.Meter.{Meter}
@@ -47,11 +46,15 @@ pub record PartsFit (e : Register) : Type 0 where
   pub whole : e .whole < 2 ^ 64
   pub rest : e .rest < 2 ^ 64
 
+pub record AllFit (t : StreamTotals) : Type 0 where
+  pub superior : PartsFit (t .superior)
+  pub inferior : PartsFit (t .inferior)
+  pub mass : PartsFit (t .mass)
+
 pub record RegistersFit : Type 0 where
-  pub superior : (t : StreamTotals) → SoundTotals t → PartsFit (t .superior)
-  pub inferior : (t : StreamTotals) → SoundTotals t → PartsFit (t .inferior)
-  pub mass : (t : StreamTotals) → SoundTotals t → PartsFit (t .mass)
-  pub booking : (v h : ℕ) → v ≤ mostVolume → (h ≤ calorificBound) ⊎ (h ≤ densityBound) → v * h < 2 ^ 64
+  pub parts : (t : StreamTotals) → SoundTotals t → AllFit t
+  -- a volume times a value, each of which is below 2^32, as every ceiling is
+  pub booking : (v h : ℕ) → v ≤ mostVolume → h < 2 ^ 32 → v * h < 2 ^ 64
 
 -- neither mean is above the ceiling of a calorific value
 abbrev pub AtMostCeiling : (Meter → ℕ → Outcome ℕ) → Type 0

@@ -13,7 +13,7 @@ use Rattle.records.specs.Cases.{sameOutcome, upFrom}
 use Rattle.properties.specs.Chain.{T, D, HmSuperior, HmInferior, M, S, S9, Z, Hs, Hi, rho, A, G, d, r, W}
 use Rattle.properties.specs.Quantities.{BoundsBelow}
 use Rattle.properties.specs.PerKilogram.{NoSmallerDistance}
-use Rattle.properties.specs.Cases.{K1, K2, GasesHold, MassGasesHold, halfGas}
+use Rattle.properties.specs.Cases.{K1, K2, GasesHold, PerKilogramGasesHold, halfGas}
 
 pub bounds-below : BoundsBelow
 bounds-below = refl
@@ -30,9 +30,9 @@ pub gases-hold : GasesHold
 unfolding near nearZ floor root rootFrom componentTable total fractionFor overLines linesOf fractionsOf entriesBytes lineBreaks fractionZero anyAbove sameOutcome upFrom T D HmSuperior HmInferior M S S9 Z Hs Hi rho A G d r W
 gases-hold = refl
 
-pub mass-gases-hold : MassGasesHold
+pub per-kilogram-gases-hold : PerKilogramGasesHold
 unfolding near componentTable total fractionFor overLines linesOf fractionsOf entriesBytes lineBreaks fractionZero anyAbove sameOutcome upFrom HmSuperior HmInferior M
-mass-gases-hold = refl
+per-kilogram-gases-hold = refl
 
 half-reads : readingOf (bytesOf (halfGas 15 15)) ≡ accepted (halfGas 15 15)
 unfolding total fractionFor linesOf fractionsOf entriesBytes lineBreaks fractionZero anyAbove

@@ -27,7 +27,7 @@ use Rattle.properties.specs.Unrounded as unrounded
 use Rattle.properties.specs.Quantities.{calorificBound, densityBound, relativeBound, wobbeBound, Bounded}
 use Rattle.properties.specs.Bounds.{divisorLow, divisorHigh, airLow, airHigh, compressionLow, calorificLow, idealCalorificHigh, calorificHigh, densityLow, relativeLow, idealRelativeHigh, idealHigh, wobbeLow, Floored, Proper, DensityByAir}
 use Rattle.properties.specs.Distances.{Indexed, Distances}
-use Rattle.properties.specs.PerKilogram.{perKilogram, unroundedPerKilogram, massBasisOf, massDistance, MassShown, MeteringDoesNotMatter}
+use Rattle.properties.specs.PerKilogram.{perKilogram, unroundedPerKilogram, massBasisOf, perKilogramDistance, PerKilogramShown, MeteringDoesNotMatter}
 use Rattle.properties.specs.Accepted.{Amounts, Squares, EveryAcceptedRecord}
 use Rattle.properties.proofs.Approximations.{z-low, z-within, real-within}
 use Rattle.properties.proofs.Index.{indexed}
@@ -266,20 +266,20 @@ module _ (k : Contents) (a : Acceptable k) where
   unfolding HmInferior M
   inferior-by-mass = rw (over-entries _, over-entries _) (heat-by-mass _ (heats (k .combustion) .1) (k .lines) (k .fractions))
 
-  mass-within : (Hm : ℕ) → Within massDistance (perKilogram Hm (M k)) (unroundedPerKilogram (whole Hm) (unrounded.M k))
-  mass-within Hm =
+  per-kilogram-within : (Hm : ℕ) → Within perKilogramDistance (perKilogram Hm (M k)) (unroundedPerKilogram (whole Hm) (unrounded.M k))
+  per-kilogram-within Hm =
       let h = near-half (Hm * 1000000) (M k) mass-pos in
       record { proper = (omega (arith, mass-pos), omega arith); below = omega (arith, h .below); above = omega (arith, h .above) }
 
-  mass-shown : (bs : List ℕ) → readingOf bs ≡ accepted k → MassShown bs k (massBasisOf k)
-  mass-shown bs e =
+  per-kilogram-shown : (bs : List ℕ) → readingOf bs ≡ accepted k → PerKilogramShown bs k (massBasisOf k)
+  per-kilogram-shown bs e =
       record {
         answer = ap (mapped massBasisOf) e;
         superior-bounded = per-kilogram-high mass-pos superior-by-mass;
         inferior-bounded = per-kilogram-high mass-pos inferior-by-mass;
         order = near-monotone _ _ (M k) mass-pos (mul-le-mul-right 1000000 heats-ordered);
-        superior-within = mass-within (HmSuperior k);
-        inferior-within = mass-within (HmInferior k);
+        superior-within = per-kilogram-within (HmSuperior k);
+        inferior-within = per-kilogram-within (HmInferior k);
       }
 
   greatest : Root (r k) (d k * 10 ^ 10)
@@ -297,14 +297,14 @@ every-accepted-record bs k e =
       proper = proper k a;
       air = density-by-air k a;
       within = distances k a;
-      per-kilogram = mass-shown k a bs e;
+      per-kilogram = per-kilogram-shown k a bs e;
     }
 
 -- a value per kilogram is made of the combustion temperature, the lines and the fractions
-same-masses : (combustion m n : ℕ) (ls xs : List ℕ) → massBasisOf (contents combustion m ls xs) ≡ massBasisOf (contents combustion n ls xs)
+same-values : (combustion m n : ℕ) (ls xs : List ℕ) → massBasisOf (contents combustion m ls xs) ≡ massBasisOf (contents combustion n ls xs)
 unfolding HmSuperior HmInferior M
-same-masses combustion m n ls xs = refl
+same-values combustion m n ls xs = refl
 
 pub metering-does-not-matter : MeteringDoesNotMatter
 metering-does-not-matter bs cs combustion m n ls xs eb ec =
-    ap (mapped massBasisOf) eb ∙ ap accepted (same-masses combustion m n ls xs) ∙ sym (ap (mapped massBasisOf) ec)
+    ap (mapped massBasisOf) eb ∙ ap accepted (same-values combustion m n ls xs) ∙ sym (ap (mapped massBasisOf) ec)

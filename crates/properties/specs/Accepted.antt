@@ -11,7 +11,7 @@ use Rattle.records.specs.Calls.{readingOf}
 use Rattle.properties.specs.Chain.{combustionPlace, sum, HmSuperior, HmInferior, M, S, S9, d, r, sixOf, propertiesOf}
 use Rattle.properties.specs.Bounds.{Proper, DensityByAir}
 use Rattle.properties.specs.Distances.{Distances}
-use Rattle.properties.specs.PerKilogram.{massBasisOf, MassShown}
+use Rattle.properties.specs.PerKilogram.{massBasisOf, PerKilogramShown}
 
 -- Hm and M are the sums themselves, since none is below 0
 pub record Amounts (k : Contents) : Type 0 where
@@ -36,7 +36,7 @@ pub record Shown (bs : List ℕ) (k : Contents) : Type 0 where
   pub proper : Proper (sixOf k)
   pub air : DensityByAir (k .metering) (sixOf k)
   pub within : Distances k (sixOf k)
-  pub per-kilogram : MassShown bs k (massBasisOf k)
+  pub per-kilogram : PerKilogramShown bs k (massBasisOf k)
 
 abbrev pub EveryAcceptedRecord : Type 0
 EveryAcceptedRecord = (bs : List ℕ) (k : Contents) → readingOf bs ≡ accepted k → Shown bs k

@@ -4,8 +4,8 @@ use Rattle.properties.specs.declared.Properties.{Properties}
 use Rattle.properties.specs.declared.Answer.{Answer}
 use Rattle.properties.specs.declared.Answer.the-variants.{Accepted, Refused}
 use Rattle.properties.specs.declared.PerKilogram.{PerKilogram}
-use Rattle.properties.specs.declared.MassAnswer.{MassAnswer}
-use Rattle.properties.specs.declared.MassAnswer.the-variants as mass
+use Rattle.properties.specs.declared.PerKilogramAnswer.{PerKilogramAnswer}
+use Rattle.properties.specs.declared.PerKilogramAnswer.the-variants as per-kilogram
 use Rattle.properties.specs.Chain.{Six}
 use Rattle.properties.specs.PerKilogram.{MassBasis}
 
@@ -39,10 +39,10 @@ meaning (Accepted p) = accepted (numbers p)
 meaning (Refused n) = refused n
 
 -- the numbers of the values per kilogram
-abbrev pub massNumbers : PerKilogram → MassBasis
-massNumbers v = record { superior = v .superior .value; inferior = v .inferior .value }
+abbrev pub perKilogramNumbers : PerKilogram → MassBasis
+perKilogramNumbers v = record { superior = v .superior .value; inferior = v .inferior .value }
 
 -- document 01's number, or the values per kilogram, of each case of an answer
-abbrev pub massMeaning : MassAnswer → Outcome MassBasis
-massMeaning (mass.Accepted v) = accepted (massNumbers v)
-massMeaning (mass.Refused n) = refused n
+abbrev pub perKilogramMeaning : PerKilogramAnswer → Outcome MassBasis
+perKilogramMeaning (per-kilogram.Accepted v) = accepted (perKilogramNumbers v)
+perKilogramMeaning (per-kilogram.Refused n) = refused n

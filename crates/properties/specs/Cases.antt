@@ -71,8 +71,8 @@ GasesHold = all (λ (c : Contents × Six). sameOutcome sameSix (propertiesOf (by
 abbrev pub per : ℕ → ℕ → MassBasis
 per superior inferior = record { superior = superior; inferior = inferior }
 
-abbrev pub sameMass : MassBasis → MassBasis → Bool
-sameMass v w = eqb (v .superior) (w .superior) && eqb (v .inferior) (w .inferior)
+abbrev pub samePerKilogram : MassBasis → MassBasis → Bool
+samePerKilogram v w = eqb (v .superior) (w .superior) && eqb (v .inferior) (w .inferior)
 
 abbrev pub methane : ℕ → ℕ → Contents
 methane c m = contents c m (1 ∷ []) (1000000 ∷ [])
@@ -83,8 +83,8 @@ halfGas c m = contents c m (1 ∷ 2 ∷ 52 ∷ []) (905709 ∷ 60753 ∷ 33538 �
 
 -- Gases and their values per kilogram: methane at each combustion temperature, at 15 °C as document 02 prints it; the gas of annex D at
 -- every permitted pair; three of the gases above; a gas on a half. `cargo run --example expected -- kilograms` in rust/ prints the rows.
-abbrev pub massGases : List (Contents × MassBasis)
-massGases =
+abbrev pub perKilogramGases : List (Contents × MassBasis)
+perKilogramGases =
     (methane 25 0, per 5551518 5002805)
     ∷ (methane 20 20, per 5554385 5003117)
     ∷ (methane 15 15, per 5557315 5003366)
@@ -101,5 +101,5 @@ massGases =
     ∷ (halfGas 15 15, per 5217188 4705015)
     ∷ []
 
-abbrev pub MassGasesHold : Type 0
-MassGasesHold = all (λ (c : Contents × MassBasis). sameOutcome sameMass (perKilogramOf (bytesOf (c .0))) (accepted (c .1))) massGases ≡ true
+abbrev pub PerKilogramGasesHold : Type 0
+PerKilogramGasesHold = all (λ (c : Contents × MassBasis). sameOutcome samePerKilogram (perKilogramOf (bytesOf (c .0))) (accepted (c .1))) perKilogramGases ≡ true

@@ -39,25 +39,25 @@ abbrev pub FirstBytesDecidePerKilogram : Type 0
 FirstBytesDecidePerKilogram = (bs : List ℕ) → perKilogramOf (take enough bs) ≡ perKilogramOf bs
 
 -- the most that a value differs from the unrounded quotient: half of its unit, 5 J/kg, since it is rounded once
-abbrev pub massDistance : Fraction
-massDistance = half
+abbrev pub perKilogramDistance : Fraction
+perKilogramDistance = half
 
 -- no smaller distance is true: one that the superior value of every accepted record keeps is not below it (`halfGas` in Cases.antt)
 abbrev pub NoSmallerDistance : Type 0
 NoSmallerDistance =
     (t : Fraction) →
     ((bs : List ℕ) (k : Contents) → readingOf bs ≡ accepted k →
-    Within t (massBasisOf k .superior) (unroundedPerKilogram (unrounded.HmSuperior k) (unrounded.M k))) → massDistance .num * t .den ≤ t .num * massDistance .den
+    Within t (massBasisOf k .superior) (unroundedPerKilogram (unrounded.HmSuperior k) (unrounded.M k))) → perKilogramDistance .num * t .den ≤ t .num * perKilogramDistance .den
 
 -- what is shown of a record that reads as k: the call answers its two values, neither passes its ceiling, the inferior one is not above
 -- the superior one, and each is within its distance
-pub record MassShown (bs : List ℕ) (k : Contents) (v : MassBasis) : Type 0 where
+pub record PerKilogramShown (bs : List ℕ) (k : Contents) (v : MassBasis) : Type 0 where
   pub answer : perKilogramOf bs ≡ accepted v
   pub superior-bounded : v .superior ≤ massCalorificBound
   pub inferior-bounded : v .inferior ≤ massCalorificBound
   pub order : v .inferior ≤ v .superior
-  pub superior-within : Within massDistance (v .superior) (unroundedPerKilogram (unrounded.HmSuperior k) (unrounded.M k))
-  pub inferior-within : Within massDistance (v .inferior) (unroundedPerKilogram (unrounded.HmInferior k) (unrounded.M k))
+  pub superior-within : Within perKilogramDistance (v .superior) (unroundedPerKilogram (unrounded.HmSuperior k) (unrounded.M k))
+  pub inferior-within : Within perKilogramDistance (v .inferior) (unroundedPerKilogram (unrounded.HmInferior k) (unrounded.M k))
 
 -- two accepted records that are alike but for the metering temperature have the same two values
 abbrev pub MeteringDoesNotMatter : Type 0

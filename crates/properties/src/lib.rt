@@ -6,7 +6,7 @@ ghost use Rattle.records.specs.Format.{contentsIn};
 ghost use Rattle.records.specs.Conditions.{recordOrder};
 ghost use Rattle.properties.specs.Chain.{sixOf, propertiesOf};
 ghost use Rattle.properties.specs.PerKilogram.{massBasisOf, perKilogramOf};
-ghost use Rattle.properties.specs.Answers.{numbers, meaning, massNumbers, massMeaning};
+ghost use Rattle.properties.specs.Answers.{numbers, meaning, perKilogramNumbers, perKilogramMeaning};
 
 pub mod quantities;
 pub mod steps;
@@ -77,7 +77,7 @@ pub struct PerKilogram {
 }
 
 // The values per kilogram, or document 01's number.
-pub enum MassAnswer {
+pub enum PerKilogramAnswer {
     Accepted(PerKilogram),
     Refused(u8),
 }
@@ -85,7 +85,7 @@ pub enum MassAnswer {
 // The values per kilogram of an accepted record.
 fn calculate_per_kilogram(bytes: &[u8]) -> PerKilogram
     requires { ⌜ firstOf (recordOrder (now bytes)) ≡ 0 ⌝ }
-    ensures { λ r. ⌜ massNumbers r ≡ massBasisOf (contentsIn (now (bytes .entry))) ⌝ }
+    ensures { λ r. ⌜ perKilogramNumbers r ≡ massBasisOf (contentsIn (now (bytes .entry))) ⌝ }
 {
     let sums = sums::sums_of(bytes);
     let superior = steps::per_kilogram(sums.superior, sums.mass);
@@ -94,12 +94,12 @@ fn calculate_per_kilogram(bytes: &[u8]) -> PerKilogram
 }
 
 // The values per kilogram of a record.
-pub fn per_kilogram_of(bytes: &[u8]) -> MassAnswer
-    ensures { λ r. ⌜ massMeaning r ≡ perKilogramOf (now (bytes .entry)) ⌝ }
+pub fn per_kilogram_of(bytes: &[u8]) -> PerKilogramAnswer
+    ensures { λ r. ⌜ perKilogramMeaning r ≡ perKilogramOf (now (bytes .entry)) ⌝ }
 {
     let refusal = records::refusal(bytes);
     if refusal != 0 {
-        return MassAnswer::Refused(refusal);
+        return PerKilogramAnswer::Refused(refusal);
     }
-    MassAnswer::Accepted(calculate_per_kilogram(bytes))
+    PerKilogramAnswer::Accepted(calculate_per_kilogram(bytes))
 }

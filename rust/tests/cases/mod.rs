@@ -143,7 +143,7 @@ pub fn further() -> Vec<(&'static str, Gas)> {
 /// Methane, ethane and nitrogen: at 15 °C the superior calorific value per kilogram, unrounded, ends in .5.
 pub const HALF_GAS: [(u8, u32); 3] = [(1, 905_709), (2, 60_753), (52, 33_538)];
 
-/// The gases of `massGases` in crates/properties/specs/Cases.antt, each with its name there.
+/// The gases of `perKilogramGases` in crates/properties/specs/Cases.antt, each with its name there.
 #[rustfmt::skip]
 pub fn by_mass() -> Vec<(&'static str, Gas)> {
     let methane = [(25, 0), (20, 20), (15, 15), (0, 0)].map(|pair| ("methane", "methane", pair, methane_and(&[])));

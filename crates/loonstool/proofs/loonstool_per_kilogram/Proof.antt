@@ -2,7 +2,7 @@
 use mathlib.Core.Path.{ap}
 use borrow.Author.Needs.{needs}
 use Rattle.records.specs.Order.{mapped}
-use Rattle.loonstool.specs.Exports.{bothValues}
+use Rattle.loonstool.specs.Exports.{perKilogramInOrder}
 use Rattle.records.proofs.Returned.{alike}
 use Rattle.loonstool.proofs.loonstool_per_kilogram.Statement.{statement}
 use Rattle.loonstool.proofs.loonstool_per_kilogram.Tie as tie
@@ -13,4 +13,4 @@ loonstool-per-kilogram-spec =
     (tie.spec
     (λ c κs. search needs)
     (λ c κs. search needs)
-    (λ c. alike (c .give-per-kilogram .ensures) (ap (mapped bothValues) (c .before .before .per-kilogram-of .ensures))))
+    (λ c. alike (c .give-per-kilogram .ensures) (ap (mapped perKilogramInOrder) (c .before .before .per-kilogram-of .ensures))))
