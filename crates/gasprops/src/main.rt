@@ -8,8 +8,8 @@ ghost use Rattle.io.specs.Counts.{Counts};
 use libc::STDERR_FILENO;
 use libc::STDIN_FILENO;
 use properties::Answer;
-use properties::PerKilogramAnswer;
 use properties::PerKilogram;
+use properties::PerKilogramAnswer;
 use properties::Properties;
 use report::print_line;
 
