@@ -53,7 +53,7 @@ pub record AllFit (t : StreamTotals) : Type 0 where
 
 pub record RegistersFit : Type 0 where
   pub parts : (t : StreamTotals) → SoundTotals t → AllFit t
-  -- a volume times a value, each of which is below 2^32, as every ceiling is
+  -- the volume of one call times a value below 2^32, as every ceiling is
   pub booking : (v h : ℕ) → v ≤ mostVolume → h < 2 ^ 32 → v * h < 2 ^ 64
 
 -- neither mean is above the ceiling of a calorific value
