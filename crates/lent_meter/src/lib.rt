@@ -5,6 +5,7 @@ mod held;
 mod words;
 
 use meter::MeanAnswer;
+use properties::sums;
 use words::Row;
 ghost use mathlib.Core.Path.{_≡_};
 ghost use Prim.Native.Nat.{ℕ};
@@ -55,12 +56,20 @@ fn analysis_row(row: &mut Row, bytes: &[u8]) -> u8
         return refusal;
     }
     let combustion = wide(records::combustion_in(bytes));
-    let metering = wide(records::metering_in(bytes));
+    let metered_at = records::metering_in(bytes);
+    let metering = wide(metered_at);
     let differs = (row[words::COMBUSTION] != combustion) | (row[words::METERING] != metering);
     if (row[words::ANALYSED] != 0) & differs {
         return 14;
     }
-    let properties = properties::calculate(bytes);
+    let sums = sums::sums_of(bytes);
+    let properties = properties::properties_from(
+        sums.superior,
+        sums.inferior,
+        sums.mass,
+        sums.summation,
+        metered_at,
+    );
     words::put_gas(row, combustion, metering, properties);
     0
 }

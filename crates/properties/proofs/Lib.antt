@@ -5,3 +5,4 @@ mod Air
 pub mod StepBounds
 pub mod Gas
 pub mod Outcomes
+pub mod Summing

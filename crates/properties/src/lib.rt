@@ -6,11 +6,12 @@ ghost use Rattle.records.specs.Format.{contentsIn};
 ghost use Rattle.records.specs.Conditions.{recordOrder};
 ghost use Rattle.properties.specs.Chain.{sixOf, propertiesOf};
 ghost use Rattle.properties.specs.PerKilogram.{massBasisOf, perKilogramOf};
+ghost use Rattle.properties.specs.Accepted.{Summed, SixOfSums};
 ghost use Rattle.properties.specs.Answers.{numbers, meaning, perKilogramNumbers, perKilogramMeaning};
 
 pub mod quantities;
 pub mod steps;
-mod sums;
+pub mod sums;
 
 use quantities::CalorificValue;
 use quantities::CompressionFactor;
@@ -35,19 +36,23 @@ pub enum Answer {
     Refused(u8),
 }
 
-// The properties of an accepted record.
-pub fn calculate(bytes: &[u8]) -> Properties
-    requires { ⌜ firstOf (recordOrder (now bytes)) ≡ 0 ⌝ }
-    ensures { λ r. ⌜ numbers r ≡ sixOf (contentsIn (now (bytes .entry))) ⌝ }
+// The properties of a gas that no condition refuses, from its sums and its metering temperature in °C.
+pub fn properties_from(
+    superior: u64,
+    inferior: u64,
+    mass: u64,
+    summation: i64,
+    metering: u8,
+) -> Properties
+    requires { ⌜ Summed superior inferior mass summation metering ⌝ }
+    ensures { λ r. ⌜ SixOfSums superior inferior mass summation metering (numbers r) ⌝ }
 {
-    let metering = records::metering_in(bytes);
-    let sums = sums::sums_of(bytes);
     let air = steps::air_factor(metering);
-    let z = steps::compression_factor(sums.summation);
-    let hs = steps::calorific_value(sums.superior, metering, z);
-    let hi = steps::calorific_value(sums.inferior, metering, z);
-    let rho = steps::density(sums.mass, metering, z);
-    let d = steps::relative_density(sums.mass, air, z);
+    let z = steps::compression_factor(summation);
+    let hs = steps::calorific_value(superior, metering, z);
+    let hi = steps::calorific_value(inferior, metering, z);
+    let rho = steps::density(mass, metering, z);
+    let d = steps::relative_density(mass, air, z);
     let w = steps::wobbe_index(hs, d);
     Properties {
         z,
@@ -67,7 +72,15 @@ pub fn properties_of(bytes: &[u8]) -> Answer
     if refusal != 0 {
         return Answer::Refused(refusal);
     }
-    Answer::Accepted(calculate(bytes))
+    let sums = sums::sums_of(bytes);
+    let metering = records::metering_in(bytes);
+    Answer::Accepted(properties_from(
+        sums.superior,
+        sums.inferior,
+        sums.mass,
+        sums.summation,
+        metering,
+    ))
 }
 
 // The calorific values per kilogram.

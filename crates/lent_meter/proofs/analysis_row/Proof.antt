@@ -5,9 +5,10 @@ use Prim.Native.Nat.{ℕ}
 use native.Mathlib.Omega.{arith}
 use borrow.Author.Needs.{needs}
 use Rattle.records.specs.Order.{firstOf}
-use Rattle.records.specs.Format.{combustionIn, meteringIn}
+use Rattle.records.specs.Format.{combustionIn, meteringIn, contentsIn}
 use Rattle.records.specs.Conditions.{recordOrder}
 use Rattle.records.proofs.RoundTrips.{accepted-head}
+use Rattle.properties.proofs.Summing.{sums-are, summed}
 use Rattle.meter.specs.Calls.{analysed}
 use Rattle.lent_meter.specs.Words.{packedStream}
 use Rattle.lent_meter.proofs.Outcomes.{number-refuses, number-accepts}
@@ -54,14 +55,30 @@ returns-2 c =
       λ h. refl,
     )
 
+-- its sums
+module _ (c : tie.After-sums-of) where
+  abbrev paired : tie.After-wide2
+  paired = c .before .before .before .before .before
+
+  abbrev record-bytes : List ℕ
+  record-bytes = bs (found paired)
+
+  clear : firstOf (recordOrder record-bytes) ≡ 0
+  clear = accepts (found paired)
+
+  metering-read : paired .before .metering-in .result ≡ meteringIn record-bytes
+  metering-read = paired .before .metering-in .ensures
+
 returns-3 : tie.Need-returns-3
 returns-3 c =
     let p = c .before .before in
-    let w = p .before .before .before .before .before in
-    let e = found w in (
+    let m = p .before .before in
+    let w = paired m in
+    let b = record-bytes m in
+    let six = p .properties-from .ensures (contentsIn b) (sums-are b (clear m) (m .sums-of .ensures) (metering-read m)) in (
       λ s sound holds.
-          number-accepts packedStream (analysed s (bs e)) _ (record-accepted s holds (bs e) (combustion-is w) (metering-is w) (accepts e) (p .before .if2 .left)) refl
-          (c .put-gas .ensures ∙ row-analysed s holds (bs e) (combustion-is w) (metering-is w) (p .calculate .ensures)),
+          number-accepts packedStream (analysed s b) _ (record-accepted s holds b (combustion-is w) (metering-is w) (clear m) (m .before .if2 .left)) refl
+          (c .put-gas .ensures ∙ row-analysed s holds b (combustion-is w) (metering-is w) six),
       λ h. elim (h refl) [ ],
     )
 
@@ -79,6 +96,7 @@ analysis-row-spec =
     (λ c. search needs)
     (λ c. search needs)
     returns-2
-    (λ c κs. search needs)
+    (λ c κs. accepts (found (c .before .before .before .before)))
+    (λ c κs. let m = c .before in summed (record-bytes m) (clear m) (m .sums-of .ensures) (metering-read m))
     (λ c κs. search needs)
     returns-3)
