@@ -4,7 +4,7 @@ ghost use mathlib.Core.Path.{_≡_};
 ghost use Rattle.records.specs.Order.{firstOf};
 ghost use Rattle.records.specs.Format.{contentsIn};
 ghost use Rattle.records.specs.Conditions.{recordOrder};
-ghost use Rattle.properties.specs.Chain.{sixOf, propertiesOf};
+ghost use Rattle.properties.specs.Chain.{propertiesOf};
 ghost use Rattle.properties.specs.PerKilogram.{massBasisOf, perKilogramOf};
 ghost use Rattle.properties.specs.Accepted.{Summed, SixOfSums};
 ghost use Rattle.properties.specs.Answers.{numbers, meaning, perKilogramNumbers, perKilogramMeaning};
