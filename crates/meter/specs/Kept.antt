@@ -46,6 +46,7 @@ pub record PartsFit (e : Register) : Type 0 where
   pub whole : e .whole < 2 ^ 64
   pub rest : e .rest < 2 ^ 64
 
+-- those of a stream's three registers
 pub record AllFit (t : StreamTotals) : Type 0 where
   pub superior : PartsFit (t .superior)
   pub inferior : PartsFit (t .inferior)

@@ -9,7 +9,7 @@ use lib.ListN.{getD}
 use Rattle.rounding.specs.Near.{near}
 use Rattle.components.specs.Table.{entryOf, molarMass, superior}
 use Rattle.properties.specs.Chain.{combustionPlace, divisor, temperature, idealCalorific}
-use Rattle.properties.specs.PerKilogram as step
+use Rattle.properties.specs.PerKilogram.{perKilogram}
 
 -- a number of the component table, without its sign
 abbrev pub numberOf : ℕ → ℕ → ℕ
@@ -20,8 +20,8 @@ abbrev pub scaleOf : ℕ → ℕ → ℕ
 scaleOf table l = cond (eqb l 1 || (eqb table 5 && eqb l 41)) 1000 100
 
 -- table 4, MJ/kg: the value per kilogram of a line at 1,000,000 ppm, in columns of h at 25, 20, 15 and 0 °C
-abbrev pub perKilogram : ℕ → ℕ → ℕ
-perKilogram l c = near (step.perKilogram (10 ^ 6 * numberOf l (superior 0 + c)) (10 ^ 6 * numberOf l molarMass) * scaleOf 4 l) (10 ^ 5)
+abbrev pub figurePerKilogram : ℕ → ℕ → ℕ
+figurePerKilogram l c = near (perKilogram (10 ^ 6 * numberOf l (superior 0 + c)) (10 ^ 6 * numberOf l molarMass) * scaleOf 4 l) (10 ^ 5)
 
 -- the columns of superior h and the metering temperatures at 15/15, 0/0, 15/0, 25/0, 20/20 and 25/20
 abbrev superiorAt : ℕ → ℕ
@@ -34,8 +34,8 @@ abbrev pub meterings : List ℕ
 meterings = 15 ∷ 0 ∷ 0 ∷ 0 ∷ 20 ∷ 20 ∷ []
 
 -- table 5, MJ/m³: the ideal calorific value of a line at 1,000,000 ppm
-abbrev pub perCubicMetre : ℕ → ℕ → ℕ
-perCubicMetre l c =
+abbrev pub figurePerCubicMetre : ℕ → ℕ → ℕ
+figurePerCubicMetre l c =
     near
     (idealCalorific (10 ^ 6 * numberOf l (getD superiors (c / 2) 0 + c % 2)) (divisor (temperature (getD meterings (c / 2) 0))) * scaleOf 5 l)
     (10 ^ 6)

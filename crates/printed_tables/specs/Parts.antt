@@ -3,7 +3,7 @@ use mathlib.Core.List.{List}
 use Prim.Native.Nat.{ℕ, _+_, _*_, _/_, _%_}
 use Rattle.printed_tables.specs.declared.parts.Part.{Part}
 use Rattle.printed_tables.specs.declared.parts.Part.the-variants.{Table4, Table5, TableD1, Text}
-use Rattle.printed_tables.specs.Figures.{perKilogram, perCubicMetre}
+use Rattle.printed_tables.specs.Figures.{figurePerKilogram, figurePerCubicMetre}
 use Rattle.printed_tables.specs.TableD1.{rowFigure}
 use Rattle.printed_tables.specs.Text.{textFigure}
 
@@ -16,7 +16,7 @@ figuresIn Text = 29
 
 -- the k-th figure, line after line, where the values of the text are given
 abbrev pub figureAt : Part → List (List ℕ) → ℕ → ℕ
-figureAt Table4 values k = perKilogram (k / 8 + 1) (k % 8)
-figureAt Table5 values k = perCubicMetre (k / 12 + 1) (k % 12)
+figureAt Table4 values k = figurePerKilogram (k / 8 + 1) (k % 8)
+figureAt Table5 values k = figurePerCubicMetre (k / 12 + 1) (k % 12)
 figureAt TableD1 values k = rowFigure k
 figureAt Text values k = textFigure values k

@@ -74,8 +74,8 @@ fn calculated(part: Part, values: &Values, k: usize) -> u64
     ensures { λ r. ⌜ r ≡ figureAt part (now (values .entry)) k ⌝ }
 {
     match part {
-        Part::Table4 => tables::per_kilogram(k / 8 + 1, k % 8),
-        Part::Table5 => tables::per_cubic_metre(k / 12 + 1, k % 12),
+        Part::Table4 => tables::figure_per_kilogram(k / 8 + 1, k % 8),
+        Part::Table5 => tables::figure_per_cubic_metre(k / 12 + 1, k % 12),
         Part::TableD1 => gas::figure(k),
         Part::Text => annex_d::figure(values, k),
     }

@@ -2,7 +2,7 @@
 ghost use mathlib.Core.Path.{_≡_};
 ghost use Prim.Native.Nat.{_≤_, _<_};
 ghost use lib.ListN.{length};
-ghost use Rattle.printed_tables.specs.Figures.{numberOf, scaleOf, perKilogram, perCubicMetre};
+ghost use Rattle.printed_tables.specs.Figures.{numberOf, scaleOf, figurePerKilogram, figurePerCubicMetre};
 ghost use Rattle.printed_tables.specs.Parts.{figuresIn};
 use super::parts;
 use super::places;
@@ -41,9 +41,9 @@ pub fn scale(table: u8, line: usize) -> u64
 }
 
 // The figures of a line in a column.
-pub fn per_kilogram(line: usize, column: usize) -> u64
+pub fn figure_per_kilogram(line: usize, column: usize) -> u64
     requires { ⌜ (1 ≤ line) × (line ≤ 55) × (column < 8) ⌝ }
-    ensures { λ r. ⌜ r ≡ perKilogram line column ⌝ }
+    ensures { λ r. ⌜ r ≡ figurePerKilogram line column ⌝ }
 {
     let h = number(line, H_25 + column);
     let m = number(line, M);
@@ -51,9 +51,9 @@ pub fn per_kilogram(line: usize, column: usize) -> u64
     rounding::nearest(value * scale(4, line), MassCalorificValue::SCALE)
 }
 
-pub fn per_cubic_metre(line: usize, column: usize) -> u64
+pub fn figure_per_cubic_metre(line: usize, column: usize) -> u64
     requires { ⌜ (1 ≤ line) × (line ≤ 55) × (column < 12) ⌝ }
-    ensures { λ r. ⌜ r ≡ perCubicMetre line column ⌝ }
+    ensures { λ r. ⌜ r ≡ figurePerCubicMetre line column ⌝ }
 {
     let h = number(line, SUPERIOR[column / 2] + column % 2);
     let value = steps::ideal_calorific_value(1000000 * h, METERING[column / 2]);

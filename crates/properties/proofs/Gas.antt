@@ -6,10 +6,14 @@ use mathlib.Core.Logic.{inl, inr}
 use Prim.Native.Nat.{ℕ, _*_, _^_, _≤_, _<_}
 use native.Mathlib.Nat.{mul-le-mul, mul-le-mul-right}
 use native.Mathlib.Omega.{arith}
-use lib.IntN.{pos, natAbs}
+use lib.IntN.{ℤ, pos, natAbs}
+use mir.Syntax.{w64}
+use mir.Val.{toZ, ofZ}
+use mir.Facts.{toZ-ofZ}
 use Rattle.rounding.specs.Fraction.{Within, _over_, half, whole}
 use Rattle.rounding.specs.Root.{Root}
 use Rattle.rounding.proofs.NearLaws.{near-half, near-monotone, near-z-half}
+use Rattle.rounding.proofs.SignedWords.{fits64}
 use Rattle.rounding.proofs.FractionLaws.{within-wider, within-one}
 use Rattle.components.specs.Table.{superior, inferior, Heat, Unsigned}
 use Rattle.components.specs.Composition.{sumOf, overLines}
@@ -92,6 +96,10 @@ module _ (k : Contents) (a : Acceptable k) where
   summation-high = rw (over-entries _) (in-bounds .summation-high _ (metering-place (k .metering)))
 
   -- T, D and A
+  -- a number that is S is the same as a signed word
+  pub summation-word : {s : ℤ} → s ≡ S k → toZ w64 (ofZ w64 s) ≡ s
+  summation-word is = toZ-ofZ (fits64 _ (rw is (omega (arith, summation-high))))
+
   D-low : divisorLow ≤ D k
   unfolding D T
   D-low = divisor-low (k .metering)

@@ -2,12 +2,9 @@
 use mathlib.Core.Path.{_≡_, _∙_}
 use mathlib.Core.List.{List}
 use Prim.Native.Nat.{ℕ}
-use native.Mathlib.Omega.{arith}
 use lib.IntN.{ℤ}
 use mir.Syntax.{w64}
 use mir.Val.{toZ, ofZ}
-use mir.Facts.{toZ-ofZ}
-use Rattle.rounding.proofs.SignedWords.{fits64}
 use Rattle.records.specs.Order.{firstOf}
 use Rattle.records.specs.Format.{Contents, meteringIn, contentsIn}
 use Rattle.records.specs.Conditions.{recordOrder}
@@ -15,7 +12,7 @@ use Rattle.records.specs.Accepted.{Acceptable}
 use Rattle.records.proofs.Accepted.{acceptable}
 use Rattle.properties.specs.Chain.{HmSuperior, HmInferior, M, S}
 use Rattle.properties.specs.Accepted.{SumsOf, Summed}
-use Rattle.properties.proofs.Gas.{summation-high}
+use Rattle.properties.proofs.Gas.{summation-word}
 
 module _ (bs : List ℕ) (clear : firstOf (recordOrder bs) ≡ 0) where
   abbrev k : Contents
@@ -33,7 +30,7 @@ module _ (bs : List ℕ) (clear : firstOf (recordOrder bs) ≡ 0) where
           superior-is = sums .0;
           inferior-is = sums .1 .0;
           mass-is = sums .1 .1 .0;
-          summation-is = toZ-ofZ (fits64 _ (rw s (omega (arith, summation-high k good)))) ∙ s;
+          summation-is = summation-word k good s ∙ s;
           metering-is = is;
         }
 

@@ -1,4 +1,4 @@
--- What is shown of every accepted record.
+-- What is shown of every accepted record, and what its sums say of its properties.
 use mathlib.Core.Path.{_≡_}
 use mathlib.Core.List.{List}
 use Prim.Native.Nat.{ℕ, _*_, _^_, _≤_}

@@ -6,15 +6,13 @@ use borrow.Author.Needs.{needs}
 use lib.IntN.{ℤ}
 use mir.Syntax.{w64}
 use mir.Val.{toZ, ofZ}
-use mir.Facts.{toZ-ofZ}
-use Rattle.rounding.proofs.SignedWords.{fits64}
 use Rattle.records.specs.Format.{Contents}
 use Rattle.records.specs.Accepted.{Acceptable}
 use Rattle.properties.specs.declared.Properties.{Properties}
 use Rattle.properties.specs.Answers.{numbers}
 use Rattle.properties.specs.Chain.{temperature, divisor, airFactor, compression, tenth, real, idealCalorific, idealDensity, idealRelative, wobbe, rootOf, Six, T, D, S9, Z, Hs, Hi, rho, A, G, d, r, W}
 use Rattle.properties.specs.Accepted.{SumsOf}
-use Rattle.properties.proofs.Gas.{superior-high, inferior-high, mass-high, summation-high, A-high, Z-low, Hs-high, d-low, d-high}
+use Rattle.properties.proofs.Gas.{superior-high, inferior-high, mass-high, summation-high, summation-word, A-high, Z-low, Hs-high, d-low, d-high}
 use Rattle.properties.proofs.properties_from.Statement.{statement}
 use Rattle.properties.proofs.properties_from.Tie as tie
 
@@ -41,7 +39,7 @@ module _ (s : tie.Start) where
   good = s .pre .acceptable
 
   summation-same : toZ w64 (ofZ w64 (s .args .summation)) ≡ s .args .summation
-  summation-same = toZ-ofZ (fits64 _ (rw (s .pre .sums .summation-is) (omega (arith, summation-high gas good))))
+  summation-same = summation-word gas good (s .pre .sums .summation-is)
 
 -- D, A and Z
 module _ (c : tie.After-compression-factor) {k : Contents} (sums : Gas (c .before .before) k) where

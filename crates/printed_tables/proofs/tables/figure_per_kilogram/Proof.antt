@@ -8,8 +8,8 @@ use Rattle.components.proofs.Entries.{entry-by-mass}
 use Rattle.properties.specs.Quantities.{massCalorificBound}
 use Rattle.properties.proofs.StepBounds.{per-kilogram-high}
 use Rattle.printed_tables.proofs.NumberLaws.{mass-above, product-high, product-fits}
-use Rattle.printed_tables.proofs.tables.per_kilogram.Statement.{statement}
-use Rattle.printed_tables.proofs.tables.per_kilogram.Tie as tie
+use Rattle.printed_tables.proofs.tables.figure_per_kilogram.Statement.{statement}
+use Rattle.printed_tables.proofs.tables.figure_per_kilogram.Tie as tie
 
 module _ (c : tie.After-number2) where
   some : 0 < 1000000 * c .number2 .result
@@ -25,8 +25,8 @@ value-high c =
     let n = c .before .before in
     omega (arith, c .value .ensures, c .before .per-kilogram .ensures, per-kilogram-high (some n) (by-mass n))
 
-pub per-kilogram-spec : {M : Type 1} → statement M
-per-kilogram-spec =
+pub figure-per-kilogram-spec : {M : Type 1} → statement M
+figure-per-kilogram-spec =
     tie.close
     (tie.spec
     (λ c. search needs)

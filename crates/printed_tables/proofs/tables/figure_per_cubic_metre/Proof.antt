@@ -10,8 +10,8 @@ use Rattle.properties.specs.Chain.{divisor, temperature}
 use Rattle.properties.proofs.StepBounds.{divisor-low, calorific-near}
 use Rattle.printed_tables.specs.Figures.{superiors, meterings}
 use Rattle.printed_tables.proofs.NumberLaws.{at-most, product-high, product-fits}
-use Rattle.printed_tables.proofs.tables.per_cubic_metre.Statement.{statement}
-use Rattle.printed_tables.proofs.tables.per_cubic_metre.Tie as tie
+use Rattle.printed_tables.proofs.tables.figure_per_cubic_metre.Statement.{statement}
+use Rattle.printed_tables.proofs.tables.figure_per_cubic_metre.Tie as tie
 
 superior-high : (k : ℕ) → k < 6 → getD superiors k 0 ≤ 10
 superior-high = at-most (λ (k : ℕ). getD superiors k 0) 10 6 tt
@@ -26,8 +26,8 @@ value-high c =
     let close = calorific-near (1000000 * c .before .number .result) (divisor (temperature metering)) (omega arith) in
     omega (arith, c .ideal-calorific-value .ensures, near.at-most {b = 500000000} close (omega (arith, heat-high (c .before))))
 
-pub per-cubic-metre-spec : {M : Type 1} → statement M
-per-cubic-metre-spec =
+pub figure-per-cubic-metre-spec : {M : Type 1} → statement M
+figure-per-cubic-metre-spec =
     tie.close
     (tie.spec
     (λ c. search needs) (λ c. search needs)
