@@ -1,5 +1,6 @@
 pub mod Every
 mod RuleLaws
+pub mod Row
 pub mod Entries
 pub mod SignedSums
 pub mod SumLaws

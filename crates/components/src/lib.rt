@@ -1,4 +1,6 @@
 // The component table of ISO 6976:1995, and sums of fraction times column over a composition.
+#![tactic(auto)]
+
 ghost use Rattle.std.specs.Prelude.{◌≡◌, ◌+◌, ◌*◌, ◌^◌, ◌≤◌, ◌<◌, T, nat_abs, pos, ◌+ℤ◌, ◌*ℤ◌, get_or};
 ghost use Rattle.std.specs.Int.Signed.{non_neg};
 ghost use Rattle.components.specs.Table.{entry_of, molar_mass, summation, superior, inferior};
@@ -68,7 +70,7 @@ fn add_unsigned(sum: u64, x: u32, n: i32) -> u64
 }
 
 // Sums of fraction times column: h superior, h inferior and m, which have no number below 0, and s.
-#[derive(Drop)]
+#[derive(Clone, Copy)]
 pub struct Sums {
     pub superior: u64,
     pub inferior: u64,

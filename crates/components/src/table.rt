@@ -256,6 +256,7 @@ pub const TABLE: [[i32; 12]; 55] = [
 
 // The row of a line, counted from 1. `% 64` tells the compiler that no other number comes than those that have an arm, so it tests nothing,
 // and reads a column from 64 numbers in a row; the last nine are never read.
+#[tactic(auto, using(crate::proofs::Row::place), unfolding(crate::specs::Table::component_table))]
 pub fn row(line: u8) -> [i32; 12]
     requires { (1 ≤ line) × (line ≤ 55) }
     ensures { result ≡ row_of line }

@@ -4,6 +4,8 @@
 // It reads until the input ends, and never more than 284 bytes, one more than the longest record has: 8 + 5 × 55 = 283. They decide
 // what a longer input gives, whatever follows: conditions 2 to 5 look at the first 8 bytes, and a length above 283 breaks condition 6
 // for every n up to 55. These are `FirstBytesDecideProperties` and `FirstBytesDecidePerKilogram` in crates/properties/specs.
+#![tactic(auto)]
+
 ghost use Rattle.io.specs.Counts.{IsPrefixLen};
 
 use libc::{STDERR_FILENO, STDIN_FILENO};
@@ -11,7 +13,7 @@ use properties::{Answer, PerKilogram, PerKilogramAnswer, Properties};
 use report::print_line;
 
 // How many bytes stand at the start of a buffer, and whether reading failed before the input's end.
-#[derive(Drop)]
+#[derive(Clone, Copy)]
 struct Input {
     length: usize,
     failed: bool,

@@ -1,6 +1,8 @@
 // The meter of document 01 in words that the caller lends and a call changes in place, so that firmware in C or Rust can call it and keep
 // it. A row of words holds a stream. Each call on a stream tests 13 and works on the stream's row alone; it gives 0, or document 01's
 // number, and a refusal leaves all that was lent as it was.
+#![tactic(auto)]
+
 mod held;
 mod words;
 

@@ -1,6 +1,8 @@
 // The meter of document 01: sixteen streams, each with the analysis in force, a volume total, two energies and a mass. Every call on a
 // meter as made or as its calls left it, with any stream, record and volume, gets its answer or the one number of its refusal. A call
 // that may change the meter takes it by value and gives it back, as it was where the call is refused.
+#![tactic(auto)]
+
 ghost use Rattle.std.specs.Prelude.{◌≡◌, ◌+◌, ◌*◌, ◌^◌, ◌≤◌, ◌<◌};
 ghost use Rattle.records.specs.Order.{first_of};
 ghost use Rattle.records.specs.Answers.{Gives};
@@ -27,7 +29,7 @@ pub const PER_MJ: u64 = 1000000000;
 pub const PER_KG: u64 = 100000000000;
 
 // The properties of an accepted record, and its pair of temperatures in °C.
-#[derive(Drop)]
+#[derive(Clone, Copy)]
 pub struct Gas {
     pub combustion: u8,
     pub metering: u8,
@@ -35,21 +37,21 @@ pub struct Gas {
 }
 
 // The analysis in force.
-#[derive(Drop)]
+#[derive(Clone, Copy)]
 pub enum InForce {
     Nothing,
     Known(Gas),
 }
 
 // An amount in two parts: of energy whole MJ and a rest below 10^9 mJ, of mass whole kg and a rest below 10^11 of 10^-11 kg.
-#[derive(Drop)]
+#[derive(Clone, Copy)]
 pub struct Register {
     pub whole: u64,
     pub rest: u64,
 }
 
 // The totals of a stream: the volume in dm³, the energies by the superior and by the inferior calorific value, and the mass.
-#[derive(Drop)]
+#[derive(Clone, Copy)]
 pub struct StreamTotals {
     pub volume: u64,
     pub superior: Register,
@@ -58,34 +60,34 @@ pub struct StreamTotals {
 }
 
 // A stream: the analysis in force, and the totals.
-#[derive(Drop)]
+#[derive(Clone, Copy)]
 pub struct Stream {
     analysis: InForce,
     totals: StreamTotals,
 }
 
 // Sixteen streams, 0 to 15.
-#[derive(Drop)]
+#[derive(Clone, Copy)]
 pub struct Meter {
     streams: [Stream; 16],
 }
 
 // What a call that may change the meter gives back: the meter, and whether the call was accepted.
-#[derive(Drop)]
+#[derive(Clone, Copy)]
 pub struct Changed {
     pub meter: Meter,
     pub verdict: Verdict,
 }
 
 // The totals, or document 01's number.
-#[derive(Drop)]
+#[derive(Clone, Copy)]
 pub enum TotalsAnswer {
     Accepted(StreamTotals),
     Refused(u8),
 }
 
 // A mean, or document 01's number.
-#[derive(Drop)]
+#[derive(Clone, Copy)]
 pub enum MeanAnswer {
     Accepted(CalorificValue),
     Refused(u8),

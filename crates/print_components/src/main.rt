@@ -1,5 +1,7 @@
 // Prints the component table, a line of the table a line: the line's number, then its twelve columns in the order and the
 // units of crates/components/src/table.rt.
+#![tactic(auto)]
+
 ghost use Rattle.std.specs.Prelude.{◌≤◌};
 
 fn print_line(line: u8)

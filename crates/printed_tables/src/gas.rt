@@ -66,7 +66,7 @@ pub fn figure(k: usize) -> u64
 }
 
 // The sums of x H, x M, x s and x, of formula (7), unit 10^-12 MJ/kg, and of formula (9), unit 10^-6 J/m³.
-#[derive(Drop)]
+#[derive(Clone, Copy)]
 pub struct Totals {
     pub h: u64,
     pub m: u64,

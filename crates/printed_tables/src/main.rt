@@ -1,6 +1,8 @@
 // Compares the figures that source document 002 prints in table 5, table 4 and annex D with those of the library's functions. Prints each
 // figure that is not equal, with its place, how many are equal, one off in the last printed digit and neither, and what is printed in the
 // source and not compared.
+#![tactic(auto)]
+
 mod annex_d;
 mod gas;
 mod parts;

@@ -8,7 +8,7 @@ use super::{annex_d, gas, places, tables};
 use report::print_amount;
 
 // How many figures are equal, one off in the last printed digit, and neither. A count stays far below 2^32.
-#[derive(Drop)]
+#[derive(Clone, Copy)]
 pub struct Counts {
     equal: u32,
     one_off: u32,
@@ -58,7 +58,7 @@ fn distance(a: u64, b: u64) -> u64
     a - b
 }
 
-#[derive(Drop)]
+#[derive(Clone, Copy)]
 pub enum Part {
     Table4,
     Table5,

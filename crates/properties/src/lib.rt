@@ -1,5 +1,7 @@
 // The six properties of a gas from its analysis record, by document 01, and its calorific values per kilogram, by request W-202 of
 // document 02. Every list of bytes gets its answer, or the one number that reading it gives.
+#![tactic(auto)]
+
 ghost use Rattle.std.specs.Prelude.{◌≡◌};
 ghost use Rattle.records.specs.Order.{first_of};
 ghost use Rattle.records.specs.Format.{contents_in};
@@ -18,7 +20,7 @@ use quantities::{
 };
 
 // The six properties.
-#[derive(Drop)]
+#[derive(Clone, Copy)]
 pub struct Properties {
     pub z: CompressionFactor,
     pub hs: CalorificValue,
@@ -29,7 +31,7 @@ pub struct Properties {
 }
 
 // The properties, or document 01's number.
-#[derive(Drop)]
+#[derive(Clone, Copy)]
 pub enum Answer {
     Accepted(Properties),
     Refused(u8),
@@ -83,14 +85,14 @@ pub fn properties_of(bytes: &[u8]) -> Answer
 }
 
 // The calorific values per kilogram.
-#[derive(Drop)]
+#[derive(Clone, Copy)]
 pub struct PerKilogram {
     pub superior: MassCalorificValue,
     pub inferior: MassCalorificValue,
 }
 
 // The values per kilogram, or document 01's number.
-#[derive(Drop)]
+#[derive(Clone, Copy)]
 pub enum PerKilogramAnswer {
     Accepted(PerKilogram),
     Refused(u8),

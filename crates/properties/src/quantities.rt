@@ -5,7 +5,7 @@ ghost use Rattle.std.specs.Prelude.{◌≡◌, ◌≤◌};
 ghost use Rattle.properties.specs.Quantities.{compression_bound, calorific_bound, density_bound, relative_bound, wobbe_bound, mass_calorific_bound, scales, bounds};
 
 // A compression factor, unit 10^-9.
-#[derive(Drop)]
+#[derive(Clone, Copy)]
 pub struct CompressionFactor {
     value: u32,
 }
@@ -33,7 +33,7 @@ impl CompressionFactor {
 }
 
 // A calorific value, unit J/m³. SCALE of them make 1 MJ/m³.
-#[derive(Drop)]
+#[derive(Clone, Copy)]
 pub struct CalorificValue {
     value: u32,
 }
@@ -61,7 +61,7 @@ impl CalorificValue {
 }
 
 // A density, unit 10^-8 kg/m³. SCALE of them make 1 kg/m³.
-#[derive(Drop)]
+#[derive(Clone, Copy)]
 pub struct Density {
     value: u32,
 }
@@ -89,7 +89,7 @@ impl Density {
 }
 
 // A relative density, unit 10^-8.
-#[derive(Drop)]
+#[derive(Clone, Copy)]
 pub struct RelativeDensity {
     value: u32,
 }
@@ -117,7 +117,7 @@ impl RelativeDensity {
 }
 
 // A Wobbe index, unit J/m³. SCALE of them make 1 MJ/m³.
-#[derive(Drop)]
+#[derive(Clone, Copy)]
 pub struct WobbeIndex {
     value: u32,
 }
@@ -145,7 +145,7 @@ impl WobbeIndex {
 }
 
 // A calorific value per kilogram, unit 10 J/kg. SCALE of them make 1 MJ/kg.
-#[derive(Drop)]
+#[derive(Clone, Copy)]
 pub struct MassCalorificValue {
     value: u32,
 }

@@ -1,5 +1,7 @@
 // The analysis record of document 01, read and written. Every list of bytes, and every composition and buffer, gets its answer or the one
 // number of its refusal.
+#![tactic(auto)]
+
 ghost use Rattle.std.specs.Prelude.{◌≡◌};
 ghost use Rattle.records.specs.Order.{first_of};
 ghost use Rattle.records.specs.Format.{contents};
@@ -16,14 +18,14 @@ pub use format::{
 };
 
 // Accepted, or refused with document 01's number.
-#[derive(Drop)]
+#[derive(Clone, Copy)]
 pub enum Verdict {
     Accepted,
     Refused(u8),
 }
 
 // The pair of temperatures in °C, and count entries: line number, and mole fraction in ppm. Past the entries stands 0.
-#[derive(Drop)]
+#[derive(Clone, Copy)]
 pub struct Analysis {
     pub combustion: u8,
     pub metering: u8,
@@ -33,7 +35,7 @@ pub struct Analysis {
 }
 
 // Beside a refusal the analysis is 0 everywhere.
-#[derive(Drop)]
+#[derive(Clone, Copy)]
 pub struct Reading {
     pub verdict: Verdict,
     pub analysis: Analysis,

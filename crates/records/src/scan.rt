@@ -9,7 +9,7 @@ use super::{conditions, format};
 
 // What 9 to 12 need of the entries so far: the sum of the fractions, the fractions of methane and of water, 0 where absent, and
 // whether another line is above its limit.
-#[derive(Drop)]
+#[derive(Clone, Copy)]
 struct Scan {
     sum: u64,
     methane: u32,

@@ -1,5 +1,7 @@
 // Prints words and numbers. What is written has no contract: no contract can speak of it. The gate compares it with the file `stdout` of
 // each program. Each function that prints answers whether all of it was written.
+#![tactic(auto)]
+
 ghost use Rattle.std.specs.Prelude.{◌^◌, ◌<◌, nat_abs};
 
 use libc::STDOUT_FILENO;

@@ -1,4 +1,6 @@
 // The search for the integer square root in rounds, each of which tries one candidate.
+#![tactic(auto)]
+
 ghost use Rattle.std.specs.Prelude.{◌≡◌, ◌+◌, ◌/◌, ◌^◌, ◌<◌};
 ghost use Rattle.root_rounds.specs.Search.{next_candidate, first_candidate, round_of, Searched};
 
@@ -34,7 +36,7 @@ pub fn first_candidate(n: u64) -> u32
 }
 
 // A round of the search: the last, or one after which another candidate is tried.
-#[derive(Drop)]
+#[derive(Clone, Copy)]
 pub enum Round {
     Last,
     Next(u32),
@@ -52,7 +54,7 @@ pub fn try_candidate(n: u64, c: u32) -> Round
 }
 
 // A root, the rounds that its search took, and their candidates in the order in which they were tried, with 0 past them.
-#[derive(Drop)]
+#[derive(Clone, Copy)]
 pub struct Rooted {
     pub root: u64,
     pub rounds: u64,

@@ -1,4 +1,6 @@
 // Rounding to the nearest whole number, halves upward, the size of a signed number, and the integer square root.
+#![tactic(auto)]
+
 ghost use Rattle.std.specs.Prelude.{◌≡◌, ◌^◌, ◌≤◌, ◌<◌, pos, neg_ℤ, nat_abs};
 ghost use Rattle.rounding.specs.Near.{near, near_z};
 ghost use Rattle.rounding.specs.Wide.{Wide, dividend};
@@ -58,7 +60,7 @@ pub fn size(n: i64) -> u64
 }
 
 // A root, and the rounds that its search took.
-#[derive(Drop)]
+#[derive(Clone, Copy)]
 struct Rooted {
     root: u64,
     rounds: u64,

@@ -1,5 +1,7 @@
 // The search for the integer root, exported for the test that counts its rounds (rust/tests/rounds.rs) and for the benchmark beside Rust's
 // own root (rust/benches/root.rs). It is no part of the library that firmware links.
+#![tactic(auto)]
+
 ghost use Rattle.std.specs.Prelude.{◌≡◌};
 ghost use Rattle.rounding.specs.Root.{root};
 ghost use Rattle.root_rounds.specs.Search.{first_candidate, round_of, Searched};
