@@ -58,17 +58,17 @@ module _ {t j : ℕ} {ls xs : List ℕ} {hs hi m : ℕ} {s : ℤ} {k : ℕ} (f :
 
   -- one more entry
   pub next_sums : Composition ls xs → k < length ls → {hs' hi' m' : ℕ} {s' : ℤ}
-      → (pos hs' ≡ pos hs +ℤ pos (get_or xs k 0) *ℤ entry_of (get_or ls k 0) (superior t))
-      × ((pos hi' ≡ pos hi +ℤ pos (get_or xs k 0) *ℤ entry_of (get_or ls k 0) (inferior t))
-      × ((pos m' ≡ pos m +ℤ pos (get_or xs k 0) *ℤ entry_of (get_or ls k 0) molar_mass)
-      × (s' ≡ s +ℤ pos (get_or xs k 0) *ℤ entry_of (get_or ls k 0) (summation j))))
+      → pos hs' ≡ pos hs +ℤ pos (get_or xs k 0) *ℤ entry_of (get_or ls k 0) (superior t)
+      → pos hi' ≡ pos hi +ℤ pos (get_or xs k 0) *ℤ entry_of (get_or ls k 0) (inferior t)
+      → pos m' ≡ pos m +ℤ pos (get_or xs k 0) *ℤ entry_of (get_or ls k 0) molar_mass
+      → s' ≡ s +ℤ pos (get_or xs k 0) *ℤ entry_of (get_or ls k 0) (summation j)
       → Four t j ls xs hs' hi' m' s' (k + 1)
-  next_sums g h e =
+  next_sums g h hs_is hi_is m_is s_is =
       record {
-        superior = next_summed f.superior g h e.0;
-        inferior = next_summed f.inferior g h e.1.0;
-        mass = next_summed f.mass g h e.1.1.0;
-        summation = next_summed f.summation g h e.1.1.1;
+        superior = next_summed f.superior g h hs_is;
+        inferior = next_summed f.inferior g h hi_is;
+        mass = next_summed f.mass g h m_is;
+        summation = next_summed f.summation g h s_is;
       }
 
   -- after the last entry
