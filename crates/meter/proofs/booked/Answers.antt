@@ -1,0 +1,12 @@
+-- The volume times the value, and the carry from the rest to the whole part.
+use Prim.Native.Nat.{◌*◌, ◌^◌, ◌≤◌}
+use native.Mathlib.Nat.{mul-le-mul, le_of_lt}
+use native.Mathlib.Omega.{arith}
+use Rattle.meter.specs.State.{most_volume}
+use Rattle.meter.proofs.Registers.{carried}
+use Rattle.meter.proofs.booked.Goals as goal
+
+pub returns : goal.returns
+returns c =
+    let a = c.args in
+    carried a.unit (omega (arith, c.requires.rest_lt_unit.0)) a.before (a.volume * a.value)
