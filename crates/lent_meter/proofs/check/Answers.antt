@@ -1,0 +1,6 @@
+-- Each of the 16 rows.
+use Rattle.lent_meter.proofs.Holding.{words_hold}
+use Rattle.lent_meter.proofs.check.Goals as goal
+
+pub returns : goal.returns
+returns c = words_hold c.args.words.now c.each_holds-arg-1.given c.each_holds.ensures
