@@ -2,7 +2,7 @@
 use mathlib.Core.Path.{◌≡◌}
 use Prim.Native.Nat.{ℕ, ◌≤◌}
 use contract.Lifetimes.{Lfts}
-use denote.Ref.{Bor}
+use denote.Ref.{Bor, MutBor}
 use Rattle.records.specs.Order.{Outcome, accepted}
 use Rattle.properties.specs.Quantities.{calorific_bound}
 use Rattle.meter.specs.declared.Register.{Register}
@@ -49,15 +49,15 @@ module _ (m : Meter) (k : ℕ) where
   mean_at_most inferior h = no_mean_above_ceiling.inferior m k h
 
 -- the same of the exported functions on lent words
-module _ (κs : Lfts 2) (w : Bor Words) (k : ℕ) (h : Bor ℕ) where
+module _ (κs : Lfts 2) (w : Bor Words) (k : ℕ) (h : MutBor ℕ) where
   pub lent_mean_asked : (e : Energy) → Lent w.now → MeanAsked e κs w k h
   lent_mean_asked superior l = l
   lent_mean_asked inferior l = l
 
-  pub lent_mean_found : (e : Energy) (n : ℕ) (h₁ : Bor ℕ) → MeanGave e κs w k h n h₁ → Lent w.now → OnReading (λ (x : ℕ). x) (mean_for e k) w.now h.now n h₁.now
+  pub lent_mean_found : (e : Energy) (n : ℕ) (h₁ : MutBor ℕ) → MeanGave e κs w k h n h₁ → Lent w.now → OnReading (λ (x : ℕ). x) (mean_for e k) w.now h.now n h₁.now
   lent_mean_found superior n h₁ gave l = gave l
   lent_mean_found inferior n h₁ gave l = gave l
 
-  pub lent_mean_gave : (e : Energy) (n : ℕ) (h₁ : Bor ℕ) → OnReading (λ (x : ℕ). x) (mean_for e k) w.now h.now n h₁.now → MeanGave e κs w k h n h₁
+  pub lent_mean_gave : (e : Energy) (n : ℕ) (h₁ : MutBor ℕ) → OnReading (λ (x : ℕ). x) (mean_for e k) w.now h.now n h₁.now → MeanGave e κs w k h n h₁
   lent_mean_gave superior n h₁ on = λ p. on
   lent_mean_gave inferior n h₁ on = λ p. on

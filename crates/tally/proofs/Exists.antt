@@ -2,7 +2,7 @@
 use mathlib.Core.Path.{◌≡◌, refl}
 use mathlib.Core.List.{[], ◌∷◌}
 use Prim.Native.Nat.{ℕ}
-use denote.Ref.{Bor}
+use denote.Ref.{Bor, MutBor}
 use Rattle.records.specs.Order.{Outcome, refused, accepted, first_of, decided, otherwise}
 use Rattle.records.specs.Answers.{Gives, verdict_of}
 use Rattle.records.proofs.OrderLaws.{gives}
@@ -25,9 +25,12 @@ use Rattle.tally.proofs.Energies.{mean_for, mean_returned}
 pub has_fresh : HasFresh
 has_fresh = record { meter = fresh_meter; returns = λ p. refl }
 
--- a reference to something
+-- a reference to something, and one that may change it
 abbrev pub to : {A : Type 0} → A → Bor A
 to a = record { ref_ptr = (0, 0); now = a }
+
+abbrev pub to_mut : {A : Type 0} → A → MutBor A
+to_mut a = record { ref_ptr = (0, 0); ghost_name = 0; now = a }
 
 -- an answer with each meaning
 pub totals_with : Outcome StreamTotals → TotalsAnswer

@@ -13,11 +13,11 @@ use Rattle.meter.proofs.Kept.{sound_after_analysis, sound_after_metering}
 use Rattle.lent_meter.proofs.Kept.{packed_otherwise, leaves_packed, packed_is_injective}
 use Rattle.tally.specs.Tally.{Ask, analysis, metering, totals, mean, Call, on, Answer}
 use Rattle.tally.proofs.Energies.{mean_for, lent_mean_gave}
-use Rattle.tally.proofs.Exists.{to}
+use Rattle.tally.proofs.Exists.{to, to_mut}
 use Rattle.tally.specs.LentRun.{Words, LentStep, by_analysis, by_metering, by_totals, by_mean, ended, after, HasLentRun, EveryListHasLentRun, HasFreshWords}
 
 pub has_fresh_words : HasFreshWords
-has_fresh_words = record { words = to (packed fresh_meter); gave = λ κs old p. refl }
+has_fresh_words = record { words = to_mut (packed fresh_meter); gave = λ κs old p. refl }
 
 -- of the one meter that words hold, said of each
 of_each : (m : Meter) (P : Meter → Type 0) → P m → (n : Meter) → Sound n → packed m ≡ packed n → P n
@@ -49,28 +49,28 @@ has_step m sound k (analysis bs) =
       answer = _;
       meter = after_analysis m k bs;
       sound = sound_after_analysis k bs m sound;
-      step = by_analysis ([], ([], tt)) (to (packed m)) k (to bs) _ (to (packed (after_analysis m k bs))) (λ p. (changes m (λ (x : Meter). analysis_of x k bs), leaves_packed (first_of (analysis_order k bs (stream_at m k))) m k (analysed (stream_at m k) bs)));
+      step = by_analysis ([], ([], tt)) (to_mut (packed m)) k (to bs) _ (to_mut (packed (after_analysis m k bs))) (λ p. (changes m (λ (x : Meter). analysis_of x k bs), leaves_packed (first_of (analysis_order k bs (stream_at m k))) m k (analysed (stream_at m k) bs)));
     }
 has_step m sound k (metering v) =
     record {
       answer = _;
       meter = after_metering m k v;
       sound = sound_after_metering k v m sound;
-      step = by_metering ([], tt) (to (packed m)) k v _ (to (packed (after_metering m k v))) (λ p. (changes m (λ (x : Meter). metering_of x k v), leaves_packed (first_of (metering_order k v (stream_at m k))) m k (metered (stream_at m k) v)));
+      step = by_metering ([], tt) (to_mut (packed m)) k v _ (to_mut (packed (after_metering m k v))) (λ p. (changes m (λ (x : Meter). metering_of x k v), leaves_packed (first_of (metering_order k v (stream_at m k))) m k (metered (stream_at m k) v)));
     }
 has_step m sound k totals =
     record {
       answer = _;
       meter = m;
       sound = sound;
-      step = by_totals ([], ([], tt)) (to (packed m)) k (to []) _ (to _) (λ p. reads m packed_totals (λ (x : Meter). totals_of x k) []);
+      step = by_totals ([], ([], tt)) (to (packed m)) k (to_mut []) _ (to_mut _) (λ p. reads m packed_totals (λ (x : Meter). totals_of x k) []);
     }
 has_step m sound k (mean e) =
     record {
       answer = _;
       meter = m;
       sound = sound;
-      step = by_mean e ([], ([], tt)) (to (packed m)) k (to 0) _ (to _) (lent_mean_gave ([], ([], tt)) (to (packed m)) k (to 0) e _ (to _) (reads m (λ (x : ℕ). x) (mean_for e k) 0));
+      step = by_mean e ([], ([], tt)) (to (packed m)) k (to_mut 0) _ (to_mut _) (lent_mean_gave ([], ([], tt)) (to (packed m)) k (to_mut 0) e _ (to_mut _) (reads m (λ (x : ℕ). x) (mean_for e k) 0));
     }
 
 has_run : (m : Meter) → Sound m → (cs : List Call) → HasLentRun (packed m) cs

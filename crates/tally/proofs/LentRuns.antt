@@ -18,7 +18,7 @@ use Rattle.tally.specs.LentRun as lent
 use Rattle.tally.specs.LentRun.{Words, totals_put, LentStep, LentRun, LentRequired, CheckDecides, LentClaim}
 use Rattle.tally.proofs.Energies.{register_of, mean_for, mean_returned, lent_mean_asked, lent_mean_found}
 use Rattle.tally.proofs.Demand.{demand3}
-use Rattle.tally.proofs.Exists.{totals_with, totals_means, mean_with, mean_means, changed, changed_gives}
+use Rattle.tally.proofs.Exists.{to_mut, totals_with, totals_means, mean_with, mean_means, changed, changed_gives}
 
 -- words hold a sound meter
 record Holds (w : Words) (m : Meter) : Type 0 where
@@ -98,7 +98,7 @@ required l =
     }
 
 pub check_decides : CheckDecides
-check_decides κs w b gave = record { only = λ e. required ((gave tt).only e); always = λ q. (gave tt).always (q.metering κs w 0 0 refl) }
+check_decides κs w b gave = record { only = λ e. required ((gave tt).only e); always = λ q. (gave tt).always (q.metering κs (to_mut w.now) 0 0 refl) }
 
 pub lent_demand3 : LentClaim
 lent_demand3 κs old new cs rs w made run =

@@ -2,7 +2,7 @@
 -- the meter that the words hold.
 use Rattle.std.specs.Prelude.{◌≡◌, Bool, List, [], ◌∷◌, ◌++◌, ℕ, get_or}
 use contract.Lifetimes.{Lfts}
-use Rattle.std.specs.Borrow.{Bor}
+use Rattle.std.specs.Borrow.{Bor, MutBor}
 use Rattle.records.specs.Order.{decided}
 use Rattle.meter.specs.declared.Meter.{Meter}
 use Rattle.lent_meter.specs.Words.{packed}
@@ -24,26 +24,26 @@ Words = List (List ℕ)
 
 -- what is known of a call of each function: where its contract's `requires` holds, its `ensures` does. What stands before the result is as
 -- it was at the entry, and behind it as it was at the exit
-abbrev pub FreshGave : Lfts 1 → Bor Words → Bor Words → Type 0
+abbrev pub FreshGave : Lfts 1 → MutBor Words → MutBor Words → Type 0
 FreshGave κs w w₁ = fresh-reads.Asked κs (w, tt) → fresh-reads.Learnt κs (w, tt) tt (w₁, tt)
 
 abbrev pub CheckGave : Lfts 1 → Bor Words → Bool → Type 0
 CheckGave κs w b = check-reads.Asked κs (w, tt) → check-reads.Learnt κs (w, tt) b (w, tt)
 
-abbrev pub AnalysisGave : Lfts 2 → Bor Words → ℕ → Bor (List ℕ) → ℕ → Bor Words → Type 0
+abbrev pub AnalysisGave : Lfts 2 → MutBor Words → ℕ → Bor (List ℕ) → ℕ → MutBor Words → Type 0
 AnalysisGave κs w k b n w₁ = analysis-reads.Asked κs (w, (k, (b, tt))) → analysis-reads.Learnt κs (w, (k, (b, tt))) n (w₁, (k, (b, tt)))
 
-abbrev pub MeteringGave : Lfts 1 → Bor Words → ℕ → ℕ → ℕ → Bor Words → Type 0
+abbrev pub MeteringGave : Lfts 1 → MutBor Words → ℕ → ℕ → ℕ → MutBor Words → Type 0
 MeteringGave κs w k v n w₁ = metering-reads.Asked κs (w, (k, (v, tt))) → metering-reads.Learnt κs (w, (k, (v, tt))) n (w₁, (k, (v, tt)))
 
-abbrev pub TotalsGave : Lfts 2 → Bor Words → ℕ → Bor (List ℕ) → ℕ → Bor (List ℕ) → Type 0
+abbrev pub TotalsGave : Lfts 2 → Bor Words → ℕ → MutBor (List ℕ) → ℕ → MutBor (List ℕ) → Type 0
 TotalsGave κs w k t n t₁ = totals-reads.Asked κs (w, (k, (t, tt))) → totals-reads.Learnt κs (w, (k, (t, tt))) n (w, (k, (t₁, tt)))
 
-abbrev pub MeanAsked : Energy → Lfts 2 → Bor Words → ℕ → Bor ℕ → Type 0
+abbrev pub MeanAsked : Energy → Lfts 2 → Bor Words → ℕ → MutBor ℕ → Type 0
 MeanAsked superior κs w k h = mean-reads.Asked κs (w, (k, (h, tt)))
 MeanAsked inferior κs w k h = mean-inferior-reads.Asked κs (w, (k, (h, tt)))
 
-abbrev pub MeanGave : Energy → Lfts 2 → Bor Words → ℕ → Bor ℕ → ℕ → Bor ℕ → Type 0
+abbrev pub MeanGave : Energy → Lfts 2 → Bor Words → ℕ → MutBor ℕ → ℕ → MutBor ℕ → Type 0
 MeanGave superior κs w k h n h₁ = MeanAsked superior κs w k h → mean-reads.Learnt κs (w, (k, (h, tt))) n (w, (k, (h₁, tt)))
 MeanGave inferior κs w k h n h₁ = MeanAsked inferior κs w k h → mean-inferior-reads.Learnt κs (w, (k, (h, tt))) n (w, (k, (h₁, tt)))
 
@@ -60,13 +60,13 @@ totals_put t =
 
 -- one call of a function on words: the number 0 says that it was accepted
 pub data LentStep : Words → List Call → List Answer → Words → Type 0 where
-  by_analysis : (κs : Lfts 2) (w : Bor Words) (k : ℕ) (b : Bor (List ℕ)) (n : ℕ) (w₁ : Bor Words) → AnalysisGave κs w k b n w₁ →
+  by_analysis : (κs : Lfts 2) (w : MutBor Words) (k : ℕ) (b : Bor (List ℕ)) (n : ℕ) (w₁ : MutBor Words) → AnalysisGave κs w k b n w₁ →
       LentStep w.now (on k (analysis b.now) ∷ []) (decided n done ∷ []) w₁.now
-  by_metering : (κs : Lfts 1) (w : Bor Words) (k v n : ℕ) (w₁ : Bor Words) → MeteringGave κs w k v n w₁ →
+  by_metering : (κs : Lfts 1) (w : MutBor Words) (k v n : ℕ) (w₁ : MutBor Words) → MeteringGave κs w k v n w₁ →
       LentStep w.now (on k (metering v) ∷ []) (decided n done ∷ []) w₁.now
-  by_totals : (κs : Lfts 2) (w : Bor Words) (k : ℕ) (t : Bor (List ℕ)) (n : ℕ) (t₁ : Bor (List ℕ)) → TotalsGave κs w k t n t₁ →
+  by_totals : (κs : Lfts 2) (w : Bor Words) (k : ℕ) (t : MutBor (List ℕ)) (n : ℕ) (t₁ : MutBor (List ℕ)) → TotalsGave κs w k t n t₁ →
       LentStep w.now (on k totals ∷ []) (decided n (totals_put t₁.now) ∷ []) w.now
-  by_mean : (e : Energy) (κs : Lfts 2) (w : Bor Words) (k : ℕ) (h : Bor ℕ) (n : ℕ) (h₁ : Bor ℕ) → MeanGave e κs w k h n h₁ →
+  by_mean : (e : Energy) (κs : Lfts 2) (w : Bor Words) (k : ℕ) (h : MutBor ℕ) (n : ℕ) (h₁ : MutBor ℕ) → MeanGave e κs w k h n h₁ →
       LentStep w.now (on k (mean e) ∷ []) (decided n (mean_is h₁.now) ∷ []) w.now
 
 -- a list of calls, each on the words as the one before left them
@@ -76,10 +76,10 @@ pub data LentRun : Words → List Call → List Answer → Words → Type 0 wher
 
 -- what the contracts require of words, with any other arguments
 pub record LentRequired (w : Words) : Type 0 where
-  pub analysis : (κs : Lfts 2) (r : Bor Words) (k : ℕ) (b : Bor (List ℕ)) → r.now ≡ w → analysis-reads.Asked κs (r, (k, (b, tt)))
-  pub metering : (κs : Lfts 1) (r : Bor Words) (k v : ℕ) → r.now ≡ w → metering-reads.Asked κs (r, (k, (v, tt)))
-  pub totals : (κs : Lfts 2) (r : Bor Words) (k : ℕ) (t : Bor (List ℕ)) → r.now ≡ w → totals-reads.Asked κs (r, (k, (t, tt)))
-  pub mean : (e : Energy) (κs : Lfts 2) (r : Bor Words) (k : ℕ) (h : Bor ℕ) → r.now ≡ w → MeanAsked e κs r k h
+  pub analysis : (κs : Lfts 2) (r : MutBor Words) (k : ℕ) (b : Bor (List ℕ)) → r.now ≡ w → analysis-reads.Asked κs (r, (k, (b, tt)))
+  pub metering : (κs : Lfts 1) (r : MutBor Words) (k v : ℕ) → r.now ≡ w → metering-reads.Asked κs (r, (k, (v, tt)))
+  pub totals : (κs : Lfts 2) (r : Bor Words) (k : ℕ) (t : MutBor (List ℕ)) → r.now ≡ w → totals-reads.Asked κs (r, (k, (t, tt)))
+  pub mean : (e : Energy) (κs : Lfts 2) (r : Bor Words) (k : ℕ) (h : MutBor ℕ) → r.now ≡ w → MeanAsked e κs r k h
 
 -- the exported `check` accepts words exactly where what the contracts require of them holds
 abbrev pub CheckDecides : Type 0
@@ -101,7 +101,7 @@ pub record LentDemand (w₀ : Words) (cs : List Call) (rs : List Answer) (w : Wo
 -- for every list of calls on words that the exported `fresh` has filled
 abbrev pub LentClaim : Type 0
 LentClaim =
-    (κs : Lfts 1) (old new : Bor Words) (cs : List Call) (rs : List Answer) (w : Words) → FreshGave κs old new → LentRun new.now cs rs w →
+    (κs : Lfts 1) (old new : MutBor Words) (cs : List Call) (rs : List Answer) (w : Words) → FreshGave κs old new → LentRun new.now cs rs w →
     LentDemand new.now cs rs w
 
 -- the claim is not empty: every list of calls has a run from all words that hold a meter, and there are words that `fresh` has filled
@@ -114,5 +114,5 @@ abbrev pub EveryListHasLentRun : Type 0
 EveryListHasLentRun = (w : Words) (cs : List Call) → Lent w → HasLentRun w cs
 
 pub record HasFreshWords : Type 0 where
-  pub words : Bor Words
-  pub gave : (κs : Lfts 1) (old : Bor Words) → FreshGave κs old words
+  pub words : MutBor Words
+  pub gave : (κs : Lfts 1) (old : MutBor Words) → FreshGave κs old words
