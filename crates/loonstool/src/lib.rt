@@ -24,24 +24,21 @@ use properties::{Answer, PerKilogramAnswer, Properties};
 use records::Verdict;
 
 // A meter as made.
-#[unsafe(no_mangle)]
-pub extern "C" fn loonstool_meter_fresh(meter: &mut Words)
+pub fn loonstool_meter_fresh(meter: &mut Words)
     ensures { meter.new ≡ packed fresh_meter }
 {
     lent_meter::fresh(meter);
 }
 
 // Whether words hold a meter.
-#[unsafe(no_mangle)]
-pub extern "C" fn loonstool_meter_check(meter: &Words) -> bool
+pub fn loonstool_meter_check(meter: &Words) -> bool
     ensures { Tells result (Lent meter.now) }
 {
     lent_meter::check(meter)
 }
 
 // The properties of a record come into force on a stream.
-#[unsafe(no_mangle)]
-pub extern "C" fn loonstool_meter_analysis(meter: &mut Words, stream: usize, bytes: &[u8]) -> u8
+pub fn loonstool_meter_analysis(meter: &mut Words, stream: usize, bytes: &[u8]) -> u8
     ensures on_words { OnWords (λ (m : Meter). analysis_of m stream bytes.now) meter.old result meter.new }
     ensures leaves { Leaves stream meter.old result meter.new }
 {
@@ -49,8 +46,7 @@ pub extern "C" fn loonstool_meter_analysis(meter: &mut Words, stream: usize, byt
 }
 
 // A stream takes a volume, in dm³.
-#[unsafe(no_mangle)]
-pub extern "C" fn loonstool_meter_metering(meter: &mut Words, stream: usize, volume: u64) -> u8
+pub fn loonstool_meter_metering(meter: &mut Words, stream: usize, volume: u64) -> u8
     requires { Lent meter.old }
     ensures on_words { OnWords (λ (m : Meter). metering_of m stream volume) meter.old result meter.new }
     ensures leaves { Leaves stream meter.old result meter.new }
@@ -59,16 +55,14 @@ pub extern "C" fn loonstool_meter_metering(meter: &mut Words, stream: usize, vol
 }
 
 // The volume, the energies and the mass of a stream.
-#[unsafe(no_mangle)]
-pub extern "C" fn loonstool_meter_totals(meter: &Words, stream: usize, totals: &mut [u64; 7]) -> u8
+pub fn loonstool_meter_totals(meter: &Words, stream: usize, totals: &mut [u64; 7]) -> u8
     ensures { OnReading packed_totals (λ (m : Meter). totals_of m stream) meter.now totals.old result totals.new }
 {
     lent_meter::totals(meter, stream, totals)
 }
 
 // The mean superior calorific value of what a stream has taken, in J/m³.
-#[unsafe(no_mangle)]
-pub extern "C" fn loonstool_meter_mean(meter: &Words, stream: usize, mean: &mut u64) -> u8
+pub fn loonstool_meter_mean(meter: &Words, stream: usize, mean: &mut u64) -> u8
     requires { Lent meter.now }
     ensures { OnReading (λ (h : ℕ). h) (λ (m : Meter). mean_of m stream) meter.now mean.old result mean.new }
 {
@@ -76,8 +70,7 @@ pub extern "C" fn loonstool_meter_mean(meter: &Words, stream: usize, mean: &mut 
 }
 
 // The mean inferior calorific value of what a stream has taken, in J/m³.
-#[unsafe(no_mangle)]
-pub extern "C" fn loonstool_meter_mean_inferior(meter: &Words, stream: usize, mean: &mut u64) -> u8
+pub fn loonstool_meter_mean_inferior(meter: &Words, stream: usize, mean: &mut u64) -> u8
     requires { Lent meter.now }
     ensures { OnReading (λ (h : ℕ). h) (λ (m : Meter). mean_inferior_of m stream) meter.now mean.old result mean.new }
 {
@@ -112,8 +105,7 @@ fn give(answer: Answer, properties: &mut [u64; 6]) -> u8
 }
 
 // Z, Hs, Hi, rho, d and W of a record.
-#[unsafe(no_mangle)]
-pub extern "C" fn loonstool_properties_of(bytes: &[u8], properties: &mut [u64; 6]) -> u8
+pub fn loonstool_properties_of(bytes: &[u8], properties: &mut [u64; 6]) -> u8
     ensures { Returns (mapped in_order (properties_of bytes.now)) properties.old result properties.new }
 {
     give(properties::properties_of(bytes), properties)
@@ -133,16 +125,14 @@ fn give_per_kilogram(answer: PerKilogramAnswer, values: &mut [u64; 2]) -> u8
 }
 
 // The superior and the inferior calorific value per kilogram of a record, unit 10 J/kg.
-#[unsafe(no_mangle)]
-pub extern "C" fn loonstool_per_kilogram(bytes: &[u8], values: &mut [u64; 2]) -> u8
+pub fn loonstool_per_kilogram(bytes: &[u8], values: &mut [u64; 2]) -> u8
     ensures { Returns (mapped per_kilogram_in_order (per_kilogram_of bytes.now)) values.old result values.new }
 {
     give_per_kilogram(properties::per_kilogram_of(bytes), values)
 }
 
 // Reads a record: the pair of temperatures in °C, the number of entries, and their line numbers and fractions, with 0 past them.
-#[unsafe(no_mangle)]
-pub extern "C" fn loonstool_read(
+pub fn loonstool_read(
     bytes: &[u8],
     combustion: &mut u8,
     metering: &mut u8,
@@ -175,8 +165,7 @@ pub extern "C" fn loonstool_read(
 }
 
 // Writes a record into the first 8 + 5n bytes of a buffer.
-#[unsafe(no_mangle)]
-pub extern "C" fn loonstool_write(
+pub fn loonstool_write(
     combustion: u8,
     metering: u8,
     lines: &[u8],
