@@ -1,7 +1,7 @@
 /* Meters methane on a stream and prints its totals and both means; then writes the record of the gas of annex D of ISO 6976:1995, prints
  * its properties and its calorific values per kilogram, and reads it again.
  *
- *     rt staticlib loonstool
+ *     tools/build library
  *     cc -Iinclude c/example.c target/staticlib/libloonstool.a -o target/example && target/example
  */
 #include <inttypes.h>

@@ -1,4 +1,4 @@
-/* Natural gas metering by ISO 6976:1995: the functions of target/staticlib/libloonstool.a, which `rt staticlib loonstool` writes. They are
+/* Natural gas metering by ISO 6976:1995: the functions of target/staticlib/libloonstool.a, which `tools/build library` writes. They are
  * a meter of sixteen streams, the properties of an analysis record, its calorific values per kilogram, and records read and written.
  *
  * Each function takes whatever numbers and bytes it is given, and gives LOONSTOOL_ACCEPTED or the number of its refusal; after a refusal

@@ -1,5 +1,5 @@
-//! Links the static library that `rt staticlib loonstool` writes: from the folder that LOONSTOOL_LIB_DIR names by its whole path, or from
-//! ../target/staticlib. The test `rounds` and the benchmark `root` link libtry_root.a from there, which `rt staticlib try_root` writes. The
+//! Links the static library that `tools/build library` writes: from the folder that LOONSTOOL_LIB_DIR names by its whole path, or from
+//! ../target/staticlib. The test `rounds` and the benchmark `root` link libtry_root.a from there, which `tools/build try_root` writes. The
 //! benchmarks get c/doubles.c too, where the repository and a C compiler are at hand.
 use std::env;
 use std::path::{Path, PathBuf};
@@ -19,7 +19,7 @@ fn main() {
     let archive = folder.join("libloonstool.a");
     if !folder.is_absolute() || !archive.is_file() {
         eprintln!(
-            "{} is missing, or its path is not whole: run `rt staticlib loonstool` in the repository, or set LOONSTOOL_LIB_DIR",
+            "{} is missing, or its path is not whole: run `tools/build library` in the repository, or set LOONSTOOL_LIB_DIR",
             archive.display()
         );
         std::process::exit(1);

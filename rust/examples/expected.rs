@@ -1,4 +1,4 @@
-//! Prints, by the plain version, what `try_meter` of crates/ reads and prints, and the rows of `gases` and `perKilogramGases` in
+//! Prints, by the plain version, what `try_meter` of crates/ reads and prints, and the rows of `gases` and `per_kilogram_gases` in
 //! crates/properties/specs/Cases.antt. tools/try_library compares them with the files.
 //!
 //! `cargo run --offline --release --example expected -- try_meter/stdout`

@@ -227,12 +227,12 @@ fn floors() {
         w,
     } = Properties::FLOORS;
     for (name, floor) in [
-        ("compressionLow", z),
-        ("calorificLow", hs),
-        ("calorificLow", hi),
-        ("densityLow", rho),
-        ("relativeLow", d),
-        ("wobbeLow", w),
+        ("compression_low", z),
+        ("calorific_low", hs),
+        ("calorific_low", hi),
+        ("density_low", rho),
+        ("relative_low", d),
+        ("wobbe_low", w),
     ] {
         assert_eq!(defined(BOUNDS, name), floor.to_string(), "{name}");
     }

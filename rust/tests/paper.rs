@@ -216,7 +216,7 @@ fn per_kilogram_by_combustion() {
         let earlier = found.entry((name, gas.pair.0)).or_insert(values);
         assert_eq!(*earlier, values, "{}", gas.title);
     }
-    let superior = [25, 20, 15, 0].map(|combustion| found[&("annexD", combustion)].superior);
+    let superior = [25, 20, 15, 0].map(|combustion| found[&("annex_d", combustion)].superior);
     assert!(superior.is_sorted_by(|one, next| one < next));
 }
 

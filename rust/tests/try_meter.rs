@@ -1,5 +1,5 @@
 //! The meter by value: random lists of calls, to which the plain meter, the tally and the proved program `try_meter` answer alike.
-//! `rt check try_meter` builds that program.
+//! `tools/build try_meter` builds that program.
 
 mod calls;
 mod cases;
@@ -51,7 +51,7 @@ fn random_lists() {
 fn proved(input: &[u8]) -> String {
     let mut command = Command::new(PROVED);
     command.stdin(Stdio::piped()).stdout(Stdio::piped());
-    let mut program = command.spawn().expect("`rt check try_meter` builds it");
+    let mut program = command.spawn().expect("`tools/build try_meter` builds it");
     let mut pipe = program.stdin.take().expect("its input is a pipe");
     pipe.write_all(input).expect("it reads its input");
     drop(pipe);

@@ -15,12 +15,12 @@ fractions : List ℕ
 fractions = 924700 ∷ 35000 ∷ 9800 ∷ 2200 ∷ 3400 ∷ 600 ∷ 17500 ∷ 6800 ∷ []
 
 -- table D.1 prints 17.478 kg/kmol, 919.09 kJ/mol at 15 °C, and 0.04785 at 15 °C
-annex-D :
+annex_d :
     (sum_of molar_mass lines fractions ≡ pos 174778457500)
     × (sum_of (superior 2) lines fractions ≡ pos 919085816000)
     × (sum_of (summation 1) lines fractions ≡ pos 478542000)
 unfolding sum_of component_table lines fractions
-annex-D = (refl, refl, refl)
+annex_d = (refl, refl, refl)
 
 -- a sum below 0: hydrogen alone at 0 °C
 hydrogen : sum_of (summation 0) (41 ∷ []) (1000000 ∷ []) ≡ negsuc 39999999

@@ -21,7 +21,7 @@ pub zero_says_accepted : ZeroSaysAccepted
 zero_says_accepted =
     record {
       properties = λ bs e. (number_of_refused six_of bs 0 (sym e)).1 refl;
-      per_kilogram_lem = λ bs e. (number_of_refused mass_basis_of bs 0 (sym e)).1 refl;
+      per_kilogram = λ bs e. (number_of_refused mass_basis_of bs 0 (sym e)).1 refl;
       reading = λ bs. never (first_of (record_order bs)) (contents_in bs);
       writing = λ k old. never (first_of (writer_order k (length old))) (placed old 0 (bytes_of k));
       analysis = λ m k bs. never (first_of (analysis_order k bs (stream_at m k))) _;

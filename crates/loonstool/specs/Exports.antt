@@ -19,7 +19,7 @@ module _ {A : Type 0} where
 -- no call is refused with the number 0, so 0 says that it was accepted
 pub record ZeroSaysAccepted : Type 0 where
   pub properties : (bs : List ℕ) → NeverRefusedByZero (properties_of bs)
-  pub per_kilogram_lem : (bs : List ℕ) → NeverRefusedByZero (per_kilogram_of bs)
+  pub per_kilogram : (bs : List ℕ) → NeverRefusedByZero (per_kilogram_of bs)
   pub reading : (bs : List ℕ) → NeverRefusedByZero (reading_of bs)
   pub writing : (k : Contents) (old : List ℕ) → NeverRefusedByZero (writing_of k old)
   pub analysis : (m : Meter) (k : ℕ) (bs : List ℕ) → NeverRefusedByZero (analysis_of m k bs)

@@ -305,7 +305,7 @@ every_accepted_record bs k e =
       proper = proper k a;
       air = density_by_air k a;
       within = distances k a;
-      per_kilogram_lem = per_kilogram_shown k a bs e;
+      per_kilogram = per_kilogram_shown k a bs e;
     }
 
 -- a value per kilogram is made of the combustion temperature, the lines and the fractions

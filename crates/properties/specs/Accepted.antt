@@ -52,7 +52,7 @@ pub record Shown (bs : List ℕ) (k : Contents) : Type 0 where
   pub proper : Proper (six_of k)
   pub air : DensityByAir k.metering (six_of k)
   pub within : Distances k (six_of k)
-  pub per_kilogram_lem : PerKilogramShown bs k (mass_basis_of k)
+  pub per_kilogram : PerKilogramShown bs k (mass_basis_of k)
 
 abbrev pub EveryAcceptedRecord : Type 0
 EveryAcceptedRecord = (bs : List ℕ) (k : Contents) → reading_of bs ≡ accepted k → Shown bs k

@@ -5,7 +5,7 @@ use Rattle.properties.specs.declared.Answer.{Answer}
 use Rattle.properties.specs.declared.Answer.TheVariants.{Accepted, Refused}
 use Rattle.properties.specs.declared.PerKilogram.{PerKilogram}
 use Rattle.properties.specs.declared.PerKilogramAnswer.{PerKilogramAnswer}
-use Rattle.properties.specs.declared.PerKilogramAnswer.TheVariants as per_kilogram_lem
+use Rattle.properties.specs.declared.PerKilogramAnswer.TheVariants as per_kilogram
 use Rattle.properties.specs.Chain.{Six}
 use Rattle.properties.specs.PerKilogram.{MassBasis}
 
@@ -44,5 +44,5 @@ per_kilogram_numbers v = record { superior = v.superior.value; inferior = v.infe
 
 -- document 01's number, or the values per kilogram, of each case of an answer
 abbrev pub per_kilogram_meaning : PerKilogramAnswer → Outcome MassBasis
-per_kilogram_meaning (per_kilogram_lem.Accepted v) = accepted (per_kilogram_numbers v)
-per_kilogram_meaning (per_kilogram_lem.Refused n) = refused n
+per_kilogram_meaning (per_kilogram.Accepted v) = accepted (per_kilogram_numbers v)
+per_kilogram_meaning (per_kilogram.Refused n) = refused n

@@ -53,7 +53,7 @@ Found line ls xs before noted k =
     ((line ≤ before) × (fraction_for line ls xs ≡ noted)) ⊎ ((noted ≡ 0) × (fraction_for line ls xs ≡ fraction_for line (drop k ls) (drop k xs)))
 
 -- what is noted of the entries before k, none of which has fraction 0, in lists where no line number breaks 7
-pub record Noted (ls xs : List ℕ) (sum ofMethane : ℕ) (above : Bool) (ofWater k : ℕ) : Type 0 where
+pub record Noted (ls xs : List ℕ) (sum of_methane : ℕ) (above : Bool) (of_water k : ℕ) : Type 0 where
   pub within : k ≤ length ls
   pub small : sum ≤ k * 2 ^ 32
   -- the line number of the last of them
@@ -61,9 +61,9 @@ pub record Noted (ls xs : List ℕ) (sum ofMethane : ℕ) (above : Bool) (ofWate
   pub lines : line_breaks before (drop k ls) ≡ false
   pub zeros : fraction_zero xs ≡ fraction_zero (drop k xs)
   pub whole : total xs ≡ sum + total (drop k xs)
-  pub methane_found : Found methane ls xs before ofMethane k
+  pub methane_found : Found methane ls xs before of_methane k
   pub any_above_lem : any_above ls xs ≡ (above || any_above (drop k ls) (drop k xs))
-  pub water_found : Found water ls xs before ofWater k
+  pub water_found : Found water ls xs before of_water k
 
 pub nothing_noted : (ls xs : List ℕ) → line_breaks 0 ls ≡ false → Noted ls xs 0 0 false 0 0
 nothing_noted ls xs h =
@@ -89,7 +89,7 @@ found_step line l x before noted rest whole false is h (inl (p, e)) = inl (omega
 found_step line l x before noted rest whole false is h (inr (z, e)) = inr (z, e)
 
 -- at an entry
-module _ {ls xs : List ℕ} {sum ofMethane : ℕ} {above : Bool} {ofWater k : ℕ} (n : Noted ls xs sum ofMethane above ofWater k) (hl : k < length ls) (hx : k < length xs) where
+module _ {ls xs : List ℕ} {sum of_methane : ℕ} {above : Bool} {of_water k : ℕ} (n : Noted ls xs sum of_methane above of_water k) (hl : k < length ls) (hx : k < length xs) where
   abbrev l : ℕ
   l = get_or ls k 0
 
@@ -117,7 +117,7 @@ module _ {ls xs : List ℕ} {sum ofMethane : ℕ} {above : Bool} {ofWater k : �
       found_step line l x n.before noted _ _ (eqb l line) (λ t. eqb→eq l line t) (leb-false _ _ (neither _ _ lines_here.0).0) (rw (left line) at f)
 
   pub next_noted : (x ≡ 0 → ⊥) → x < 2 ^ 32
-      → Noted ls xs (sum + x) (cond (eqb l methane) x ofMethane) (above || above_limit l x) (cond (eqb l water) x ofWater) (k + 1)
+      → Noted ls xs (sum + x) (cond (eqb l methane) x of_methane) (above || above_limit l x) (cond (eqb l water) x of_water) (k + 1)
   unfolding any_above
   next_noted z w =
       record {
@@ -127,9 +127,9 @@ module _ {ls xs : List ℕ} {sum ofMethane : ℕ} {above : Bool} {ofWater k : �
         lines = lines_here.1;
         zeros = zeros_step ∙ rw (ne_eqb x 0 z);
         whole = omega (arith, n.whole, total_step xs k hx);
-        methane_found = found methane ofMethane n.methane_found;
+        methane_found = found methane of_methane n.methane_found;
         any_above_lem = n.any_above_lem ∙ rw (add-one, drop-cons ls k 0, drop-cons xs k 0, or_assoc above);
-        water_found = found water ofWater n.water_found;
+        water_found = found water of_water n.water_found;
       }
 
 -- after the last entry
@@ -138,8 +138,8 @@ unfolding fraction_for
 found_all line ls xs before noted k h (inl (p, e)) = e
 found_all line ls xs before noted k h (inr (z, e)) = e ∙ rw (drop_of_length-le ls h, z)
 
-module _ {ls xs : List ℕ} {sum ofMethane : ℕ} {above : Bool} {ofWater k : ℕ} (n : Noted ls xs sum ofMethane above ofWater k) (hl : length ls ≤ k) (hx : length xs ≤ k) where
-  pub all_noted : {r : ℕ} → r ≡ first_of (limits_order (sum_outside sum) (methane_low ofMethane) above (water_high ofWater))
+module _ {ls xs : List ℕ} {sum of_methane : ℕ} {above : Bool} {of_water k : ℕ} (n : Noted ls xs sum of_methane above of_water k) (hl : length ls ≤ k) (hx : length xs ≤ k) where
+  pub all_noted : {r : ℕ} → r ≡ first_of (limits_order (sum_outside sum) (methane_low of_methane) above (water_high of_water))
       → r ≡ first_of (fractions_order ls xs)
   unfolding fraction_zero any_above total
   all_noted e =
@@ -148,4 +148,4 @@ module _ {ls xs : List ℕ} {sum ofMethane : ℕ} {above : Bool} {ofWater k : �
       let z : fraction_zero xs ≡ false = n.zeros ∙ rw ex in
       let t : total xs ≡ sum = n.whole ∙ rw (ex, add-zero) in
       let a : any_above ls xs ≡ above = n.any_above_lem ∙ rw (el, or-false) in
-      e ∙ rw (z, t, found_all methane ls xs n.before ofMethane k hl n.methane_found, a, found_all water ls xs n.before ofWater k hl n.water_found)
+      e ∙ rw (z, t, found_all methane ls xs n.before of_methane k hl n.methane_found, a, found_all water ls xs n.before of_water k hl n.water_found)

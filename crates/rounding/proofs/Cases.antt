@@ -9,14 +9,14 @@ unfolding near
 half_up = (refl, refl, refl, refl)
 
 -- -0.4 and -0.5 give 0, -0.6 and -1.5 give -1, -1.6 gives -2
-half-up-below-zero :
+half_up_below_zero :
     (near_z (negsuc 3) 10 ≡ pos 0)
     × (near_z (negsuc 4) 10 ≡ pos 0)
     × (near_z (negsuc 5) 10 ≡ negsuc 0)
     × (near_z (negsuc 14) 10 ≡ negsuc 0)
     × (near_z (negsuc 15) 10 ≡ negsuc 1)
 unfolding near_z floor
-half-up-below-zero = (refl, refl, refl, refl, refl)
+half_up_below_zero = (refl, refl, refl, refl, refl)
 
 -- the last square below 2^64, and 1 less; the largest number of 64 bits
 roots : (root 18446744065119617025 ≡ 4294967295) × (root 18446744065119617024 ≡ 4294967294) × (root 18446744073709551615 ≡ 4294967295)

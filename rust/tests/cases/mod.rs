@@ -103,7 +103,7 @@ fn gases_of(named: Vec<Named>) -> Vec<(&'static str, Gas)> {
 }
 
 fn annex_d(pair: (u8, u8)) -> Named {
-    ("annex D", "annexD", pair, K1.to_vec())
+    ("annex D", "annex_d", pair, K1.to_vec())
 }
 
 fn hydrogen(pair: (u8, u8)) -> Named {
@@ -118,7 +118,7 @@ fn heavy() -> Named {
 }
 
 fn all_lines() -> Named {
-    ("every line", "everyLine", (25, 20), every_line())
+    ("every line", "every_line", (25, 20), every_line())
 }
 
 /// The gases of `gases` in crates/properties/specs/Cases.antt, each with its name there.
@@ -134,8 +134,8 @@ pub fn further() -> Vec<(&'static str, Gas)> {
         hydrogen((15, 15)),
         hydrogen((25, 0)),
         heavy(),
-        ("at a half", "atHalf", (25, 0), at_half),
-        ("below a half", "belowHalf", (15, 15), below_half),
+        ("at a half", "at_half", (25, 0), at_half),
+        ("below a half", "below_half", (15, 15), below_half),
         all_lines(),
     ])
 }
@@ -143,12 +143,12 @@ pub fn further() -> Vec<(&'static str, Gas)> {
 /// Methane, ethane and nitrogen: at 15 °C the superior calorific value per kilogram, unrounded, ends in .5.
 pub const HALF_GAS: [(u8, u32); 3] = [(1, 905_709), (2, 60_753), (52, 33_538)];
 
-/// The gases of `perKilogramGases` in crates/properties/specs/Cases.antt, each with its name there.
+/// The gases of `per_kilogram_gases` in crates/properties/specs/Cases.antt, each with its name there.
 #[rustfmt::skip]
 pub fn by_mass() -> Vec<(&'static str, Gas)> {
     let methane = [(25, 0), (20, 20), (15, 15), (0, 0)].map(|pair| ("methane", "methane", pair, methane_and(&[])));
     let annex_d = [(15, 15), (0, 0), (15, 0), (25, 0), (20, 20), (25, 20)].map(annex_d);
-    let half = ("half a unit", "halfGas", (15, 15), HALF_GAS.to_vec());
+    let half = ("half a unit", "half_gas", (15, 15), HALF_GAS.to_vec());
     let others = [hydrogen((15, 15)), heavy(), all_lines(), half];
     gases_of(methane.into_iter().chain(annex_d).chain(others).collect())
 }

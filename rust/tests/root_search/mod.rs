@@ -1,4 +1,4 @@
-//! The search for the integer root, from the archive that `rt staticlib try_root`
+//! The search for the integer root, from the archive that `tools/build try_root`
 //! writes, and relative densities whose roots it is asked for.
 
 // Each program that includes this module uses a part of it.
