@@ -4,18 +4,18 @@
 
 ghost use Rattle.std.specs.Prelude.{◌≤◌};
 
-fn print_line(line: u8)
+fn print_line(rt: &impl Print, line: u8)
     requires { (1 ≤ line) × (line ≤ 55) }
 {
-    report::print_number(line as u64);
+    report::print_number(rt, line as u64);
     for column in 0..12 {
-        report::print_signed(components::entry(line, column) as i64);
+        report::print_signed(rt, components::entry(line, column) as i64);
     }
-    report::end_line();
+    report::end_line(rt);
 }
 
-fn main() {
+fn main(rt: HostRuntime) {
     for line in 1..=55 {
-        print_line(line);
+        print_line(&rt, line);
     }
 }

@@ -14,33 +14,33 @@ use report::print_text;
 pub type Values = [[u64; 6]; 5];
 
 // The names of the figures of the text, and after them those of the columns of table D.1.
-pub fn print_name(k: usize) -> bool {
+pub fn print_name(rt: &impl Print, k: usize) -> bool {
     match k {
-        0 => print_text(b"table D.1, total x"),
-        1 => print_text(b"table D.1, total x M"),
-        2 => print_text(b"table D.1, total x H"),
-        3 => print_text(b"table D.1, total x s"),
-        4 => print_text(b"D.1, ideal H per mole"),
-        5 | 6 => print_text(b"D.2, ideal H per kilogram"),
-        7 => print_text(b"D.2, by formula (7)"),
-        8 | 9 => print_text(b"D.3, ideal H"),
-        10 => print_text(b"D.3, by formula (9)"),
-        11 => print_text(b"D.3, sum of x s"),
-        12 | 13 => print_text(b"D.3, Z"),
-        14 | 15 => print_text(b"D.3, H"),
-        16 | 17 => print_text(b"D.4.1, ideal d"),
-        18 | 19 => print_text(b"D.4.1, d"),
-        20 | 21 => print_text(b"D.4.2, ideal rho"),
-        22 | 23 => print_text(b"D.4.2, rho"),
-        24 | 25 => print_text(b"D.4.3, ideal W"),
-        26 | 27 => print_text(b"D.4.3, W"),
-        28 => print_text(b"D.4.3, W with all digits"),
-        29 => print_text(b"M"),
-        30 => print_text(b"H"),
-        31 => print_text(b"s"),
-        32 => print_text(b"x M"),
-        33 => print_text(b"x H"),
-        _ => print_text(b"x s"),
+        0 => print_text(rt, b"table D.1, total x"),
+        1 => print_text(rt, b"table D.1, total x M"),
+        2 => print_text(rt, b"table D.1, total x H"),
+        3 => print_text(rt, b"table D.1, total x s"),
+        4 => print_text(rt, b"D.1, ideal H per mole"),
+        5 | 6 => print_text(rt, b"D.2, ideal H per kilogram"),
+        7 => print_text(rt, b"D.2, by formula (7)"),
+        8 | 9 => print_text(rt, b"D.3, ideal H"),
+        10 => print_text(rt, b"D.3, by formula (9)"),
+        11 => print_text(rt, b"D.3, sum of x s"),
+        12 | 13 => print_text(rt, b"D.3, Z"),
+        14 | 15 => print_text(rt, b"D.3, H"),
+        16 | 17 => print_text(rt, b"D.4.1, ideal d"),
+        18 | 19 => print_text(rt, b"D.4.1, d"),
+        20 | 21 => print_text(rt, b"D.4.2, ideal rho"),
+        22 | 23 => print_text(rt, b"D.4.2, rho"),
+        24 | 25 => print_text(rt, b"D.4.3, ideal W"),
+        26 | 27 => print_text(rt, b"D.4.3, W"),
+        28 => print_text(rt, b"D.4.3, W with all digits"),
+        29 => print_text(rt, b"M"),
+        30 => print_text(rt, b"H"),
+        31 => print_text(rt, b"s"),
+        32 => print_text(rt, b"x M"),
+        33 => print_text(rt, b"x H"),
+        _ => print_text(rt, b"x s"),
     }
 }
 
@@ -78,26 +78,38 @@ pub fn figure(values: &Values, k: usize) -> u64
 }
 
 // All figures, with the properties of the gas's record.
-fn print_counts(p: Properties) {
+fn print_counts(rt: &impl Print, p: Properties) {
     let values = values(gas::gas_totals(), p);
     let none = parts::Counts::new();
-    let rows = parts::count(none, Part::TableD1, &table_d1::FIGURES, &values);
-    let counts = parts::count(rows, Part::Text, &text::FIGURES, &values);
-    print_text(b"annex D: ");
-    counts.print();
+    let rows = parts::count(rt, none, Part::TableD1, &table_d1::FIGURES, &values);
+    let counts = parts::count(rt, rows, Part::Text, &text::FIGURES, &values);
+    print_text(rt, b"annex D: ");
+    counts.print(rt);
 }
 
-pub fn print_comparison() {
+pub fn print_comparison(rt: &impl Print) {
     let mut record = [0u8; 48];
     records::write(15, 15, &gas::LINES, &gas::FRACTIONS, &mut record);
     match properties::properties_of(&record) {
-        Answer::Accepted(p) => print_counts(p),
+        Answer::Accepted(p) => print_counts(rt, p),
         Answer::Refused(_) => {
-            print_text(b"annex D: the record is refused\n");
+            print_text(rt, b"annex D: the record is refused\n");
         }
     }
-    print_text(b"not compared: the fractions x of table D.1, the input\n");
-    print_text(b"not compared: the constants p2, T2, R, molar mass of air, Z of air\n");
-    print_text(b"not compared: figures that a later formula of annex D repeats\n");
-    print_text(b"not compared: D.5 and table D.2, estimates of precision\n");
+    print_text(
+        rt,
+        b"not compared: the fractions x of table D.1, the input\n",
+    );
+    print_text(
+        rt,
+        b"not compared: the constants p2, T2, R, molar mass of air, Z of air\n",
+    );
+    print_text(
+        rt,
+        b"not compared: figures that a later formula of annex D repeats\n",
+    );
+    print_text(
+        rt,
+        b"not compared: D.5 and table D.2, estimates of precision\n",
+    );
 }

@@ -13,8 +13,8 @@ mod table_d1;
 mod tables;
 mod text;
 
-fn main() {
-    tables::print_comparison(5, parts::Part::Table5, &table_5::FIGURES);
-    tables::print_comparison(4, parts::Part::Table4, &table_4::FIGURES);
-    annex_d::print_comparison();
+fn main(rt: HostRuntime) {
+    tables::print_comparison(&rt, 5, parts::Part::Table5, &table_5::FIGURES);
+    tables::print_comparison(&rt, 4, parts::Part::Table4, &table_4::FIGURES);
+    annex_d::print_comparison(&rt);
 }

@@ -32,20 +32,21 @@ impl Counts {
     {
         let off = distance(printed, calculated);
         Self {
-            equal: std::num::wrapping_add_u32(self.equal, (off == 0) as u32),
-            one_off: std::num::wrapping_add_u32(self.one_off, (off == 1) as u32),
-            otherwise: std::num::wrapping_add_u32(self.otherwise, (1 < off) as u32),
+            equal: self.equal.wrapping_add((off == 0) as u32),
+            one_off: self.one_off.wrapping_add((off == 1) as u32),
+            otherwise: self.otherwise.wrapping_add((1 < off) as u32),
         }
     }
 
-    pub fn print(self) {
+    pub fn print(self, rt: &impl Print) {
         print_amount(
+            rt,
             self.equal as u64 + self.one_off as u64 + self.otherwise as u64,
             b" figures, ",
         );
-        print_amount(self.equal as u64, b" equal, ");
-        print_amount(self.one_off as u64, b" one off, ");
-        print_amount(self.otherwise as u64, b" otherwise\n");
+        print_amount(rt, self.equal as u64, b" equal, ");
+        print_amount(rt, self.one_off as u64, b" one off, ");
+        print_amount(rt, self.otherwise as u64, b" otherwise\n");
     }
 }
 
@@ -80,7 +81,7 @@ fn calculated(part: Part, values: &Values, k: usize) -> u64
 }
 
 // The counts with the printed figures of a part more. Those that differ are printed.
-pub fn count(c: Counts, part: Part, figures: &[u32], values: &Values) -> Counts
+pub fn count(rt: &impl Print, c: Counts, part: Part, figures: &[u32], values: &Values) -> Counts
     requires { length figures.now ≡ figures_in part }
     ensures { result ≡ counts_of c figures.now (figure_at part values.now) (length figures.now) }
 {
@@ -89,7 +90,7 @@ pub fn count(c: Counts, part: Part, figures: &[u32], values: &Values) -> Counts
     while k < figures.len() {
         let printed = figures[k] as u64;
         let calculated = calculated(part, values, k);
-        places::report(part, k, printed, calculated);
+        places::report(rt, part, k, printed, calculated);
         counts = counts.with(printed, calculated);
         k += 1;
     }

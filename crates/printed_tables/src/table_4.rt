@@ -1,6 +1,5 @@
 // Table 4 of source document 002, the ideal calorific value per kilogram, MJ/kg: the lines 1 to 48, a component a row. The columns are
 // superior and inferior at 25, 20, 15 and 0 °C. A figure stands as its digits, without the decimal sign.
-// The rows are wider than the layout that `rt fmt` gives, so the gate excepts this file from it.
 pub const FIGURES: [u32; 384] = [
     55516, 50029, 55545, 50032, 55574, 50035, 55662, 50043, // 1 methane
     5190, 4751, 5193, 4751, 5195, 4752, 5202, 4753, // 2 ethane

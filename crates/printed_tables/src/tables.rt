@@ -58,14 +58,14 @@ pub fn figure_per_cubic_metre(line: usize, column: usize) -> u64
     rounding::nearest(value * scale(5, line), 1000000)
 }
 
-pub fn print_comparison(table: u8, part: parts::Part, figures: &[u32])
+pub fn print_comparison(rt: &impl Print, table: u8, part: parts::Part, figures: &[u32])
     requires { length figures.now ≡ figures_in part }
 {
-    let counts = parts::count(parts::Counts::new(), part, figures, &[[0; 6]; 5]);
-    places::print_table(table);
-    print_text(b": ");
-    counts.print();
-    print_text(b"not compared: the names of ");
-    places::print_table(table);
-    print_text(b"; it has no lines 49 to 55\n");
+    let counts = parts::count(rt, parts::Counts::new(), part, figures, &[[0; 6]; 5]);
+    places::print_table(rt, table);
+    print_text(rt, b": ");
+    counts.print(rt);
+    print_text(rt, b"not compared: the names of ");
+    places::print_table(rt, table);
+    print_text(rt, b"; it has no lines 49 to 55\n");
 }

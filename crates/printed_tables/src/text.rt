@@ -1,5 +1,5 @@
 // The figures of annex D of source document 002 after the rows of table D.1, a section a row. A figure stands as its digits, without the
-// decimal sign, and its scale beside it: 1000 for three decimals. `rt fmt` would give each a line, so the gate excepts this file from it.
+// decimal sign, and its scale beside it: 1000 for three decimals.
 pub const FIGURES: [u32; 29] = [
     10000, 17478, 91909, 4785, // table D.1, the totals of x, x M, x H and x s
     91909, // D.1, H per mole

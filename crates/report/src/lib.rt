@@ -4,42 +4,40 @@
 
 ghost use Rattle.std.specs.Prelude.{◌^◌, ◌<◌, nat_abs};
 
-use libc::STDOUT_FILENO;
-
-pub fn print_text(words: &[u8]) -> bool {
-    io::write_all(STDOUT_FILENO, words)
+pub fn print_text(rt: &impl Print, words: &[u8]) -> bool {
+    rt.write_all(words).is_ok()
 }
 
-pub fn end_line() -> bool {
-    print_text(b"\n")
+pub fn end_line(rt: &impl Print) -> bool {
+    print_text(rt, b"\n")
 }
 
 // A number in decimal.
-pub fn print_number(n: u64) -> bool {
-    io::print_decimal(STDOUT_FILENO, n)
+pub fn print_number(rt: &impl Print, n: u64) -> bool {
+    rt.print(n).is_ok()
 }
 
 // A space, and a number.
-pub fn print_spaced(n: u64) -> bool {
-    print_text(b" ") && print_number(n)
+pub fn print_spaced(rt: &impl Print, n: u64) -> bool {
+    print_text(rt, b" ") && print_number(rt, n)
 }
 
 // A number, and the words after it.
-pub fn print_amount(n: u64, words: &[u8]) -> bool {
-    print_number(n) && print_text(words)
+pub fn print_amount(rt: &impl Print, n: u64, words: &[u8]) -> bool {
+    print_number(rt, n) && print_text(rt, words)
 }
 
 // A space, and a signed number.
-pub fn print_signed(n: i64) -> bool
+pub fn print_signed(rt: &impl Print, n: i64) -> bool
     requires { nat_abs n < 2 ^ 63 }
 {
     if n < 0 {
-        return print_text(b" -") && print_number(rounding::size(n));
+        return print_text(rt, b" -") && print_number(rt, rounding::size(n));
     }
-    print_spaced(rounding::size(n))
+    print_spaced(rt, rounding::size(n))
 }
 
 // A line of words and a number.
-pub fn print_line(words: &[u8], n: u64) -> bool {
-    print_text(words) && print_spaced(n) && end_line()
+pub fn print_line(rt: &impl Print, words: &[u8], n: u64) -> bool {
+    print_text(rt, words) && print_spaced(rt, n) && end_line(rt)
 }

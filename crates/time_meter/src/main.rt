@@ -51,42 +51,42 @@ fn metered(m: Meter) -> Meter
 }
 
 // An energy and its mean; nothing of them where the mean is refused.
-fn print_energy(energy: Register, answer: MeanAnswer) {
+fn print_energy(rt: &impl Print, energy: Register, answer: MeanAnswer) {
     let MeanAnswer::Accepted(mean) = answer else {
         return;
     };
-    report::print_spaced(energy.whole);
-    report::print_spaced(energy.rest);
-    report::print_spaced(mean.value());
+    report::print_spaced(rt, energy.whole);
+    report::print_spaced(rt, energy.rest);
+    report::print_spaced(rt, mean.value());
 }
 
 // The line of a stream; none where its totals are refused.
-fn print_stream(m: Meter, stream: usize)
+fn print_stream(rt: &impl Print, m: Meter, stream: usize)
     requires { Sound m }
 {
     let TotalsAnswer::Accepted(totals) = meter::totals(m, stream) else {
         return;
     };
-    report::print_number(stream as u64);
-    report::print_spaced(totals.volume);
-    print_energy(totals.superior, meter::mean(m, stream));
-    print_energy(totals.inferior, meter::mean_inferior(m, stream));
-    report::print_spaced(totals.mass.whole);
-    report::print_spaced(totals.mass.rest);
-    report::end_line();
+    report::print_number(rt, stream as u64);
+    report::print_spaced(rt, totals.volume);
+    print_energy(rt, totals.superior, meter::mean(m, stream));
+    print_energy(rt, totals.inferior, meter::mean_inferior(m, stream));
+    report::print_spaced(rt, totals.mass.whole);
+    report::print_spaced(rt, totals.mass.rest);
+    report::end_line(rt);
 }
 
-fn print_streams(m: Meter)
+fn print_streams(rt: &impl Print, m: Meter)
     requires { Sound m }
 {
     for stream in 0..16 {
-        print_stream(m, stream);
+        print_stream(rt, m, stream);
     }
 }
 
-fn main() {
+fn main(rt: HostRuntime) {
     let m0 = meter::fresh();
     let m1 = with_analyses(m0);
     let m2 = metered(m1);
-    print_streams(m2);
+    print_streams(&rt, m2);
 }

@@ -7,30 +7,30 @@
 // `n` takes a fresh meter, `a` is an analysis, `m` a metering call, `f` fills a stream, and `r` reads one.
 #![tactic(auto)]
 
-ghost use Rattle.std.specs.Prelude.{◌≡◌, ◌+◌, ◌≤◌, length};
+ghost use Rattle.std.specs.Prelude.{◌≡◌, ◌+◌, ◌≤◌, length, take};
 ghost use Rattle.meter.specs.State.{Sound};
 ghost use Rattle.try_meter.specs.Calls.{number8, filled_by, after_call};
 
-use libc::STDIN_FILENO;
 use meter::{MeanAnswer, Meter, Register, TotalsAnswer};
 use records::Verdict;
+use std::io::{Input, Read};
 
 // The name of a call, and the stream that it names.
-fn print_call(name: &[u8], stream: usize) {
-    report::print_text(name);
-    report::print_spaced(stream as u64);
+fn print_call(rt: &impl Print, name: &[u8], stream: usize) {
+    report::print_text(rt, name);
+    report::print_spaced(rt, stream as u64);
 }
 
-fn print_refused(number: u8) {
-    report::print_line(b": refused", number as u64);
+fn print_refused(rt: &impl Print, number: u8) {
+    report::print_line(rt, b": refused", number as u64);
 }
 
-fn print_verdict(verdict: Verdict) {
+fn print_verdict(rt: &impl Print, verdict: Verdict) {
     match verdict {
         Verdict::Accepted => {
-            report::print_text(b": accepted\n");
+            report::print_text(rt, b": accepted\n");
         }
-        Verdict::Refused(number) => print_refused(number),
+        Verdict::Refused(number) => print_refused(rt, number),
     }
 }
 
@@ -48,48 +48,61 @@ fn fill(m: Meter, stream: usize) -> Meter
 }
 
 // A register's name, its whole part and its rest, each with its unit.
-fn print_register(name: &[u8], register: Register, whole: &[u8], rest: &[u8]) {
-    report::print_text(name);
-    report::print_amount(register.whole, whole);
-    report::print_amount(register.rest, rest);
+fn print_register(rt: &impl Print, name: &[u8], register: Register, whole: &[u8], rest: &[u8]) {
+    report::print_text(rt, name);
+    report::print_amount(rt, register.whole, whole);
+    report::print_amount(rt, register.rest, rest);
 }
 
-fn print_totals(stream: usize, answer: TotalsAnswer) {
-    print_call(b"totals", stream);
+fn print_totals(rt: &impl Print, stream: usize, answer: TotalsAnswer) {
+    print_call(rt, b"totals", stream);
     match answer {
         TotalsAnswer::Accepted(t) => {
-            report::print_text(b": ");
-            report::print_amount(t.volume, b" dm3");
-            print_register(b", superior ", t.superior, b" MJ ", b" mJ");
-            print_register(b", inferior ", t.inferior, b" MJ ", b" mJ");
-            print_register(b", mass ", t.mass, b" kg ", b" e-11 kg\n");
+            report::print_text(rt, b": ");
+            report::print_amount(rt, t.volume, b" dm3");
+            print_register(rt, b", superior ", t.superior, b" MJ ", b" mJ");
+            print_register(rt, b", inferior ", t.inferior, b" MJ ", b" mJ");
+            print_register(rt, b", mass ", t.mass, b" kg ", b" e-11 kg\n");
         }
-        TotalsAnswer::Refused(number) => print_refused(number),
+        TotalsAnswer::Refused(number) => print_refused(rt, number),
     }
 }
 
-fn print_mean(name: &[u8], stream: usize, answer: MeanAnswer) {
-    print_call(name, stream);
+fn print_mean(rt: &impl Print, name: &[u8], stream: usize, answer: MeanAnswer) {
+    print_call(rt, name, stream);
     match answer {
         MeanAnswer::Accepted(h) => {
-            report::print_text(b": ");
-            report::print_amount(h.value(), b" J/m3\n");
+            report::print_text(rt, b": ");
+            report::print_amount(rt, h.value(), b" J/m3\n");
         }
-        MeanAnswer::Refused(number) => print_refused(number),
+        MeanAnswer::Refused(number) => print_refused(rt, number),
     }
 }
 
 // The totals of a stream, and both its means.
-fn print_readings(m: Meter, stream: usize)
+fn print_readings(rt: &impl Print, m: Meter, stream: usize)
     requires { Sound m }
 {
-    print_totals(stream, meter::totals(m, stream));
-    print_mean(b"mean", stream, meter::mean(m, stream));
-    print_mean(b"mean inferior", stream, meter::mean_inferior(m, stream));
+    print_totals(rt, stream, meter::totals(m, stream));
+    print_mean(rt, b"mean", stream, meter::mean(m, stream));
+    print_mean(
+        rt,
+        b"mean inferior",
+        stream,
+        meter::mean_inferior(m, stream),
+    );
 }
 
 // Makes a call of the input, and gives the meter after it.
-fn called(m: Meter, kind: u8, stream: usize, volume: u64, title: &[u8], bytes: &[u8]) -> Meter
+fn called(
+    rt: &impl Print,
+    m: Meter,
+    kind: u8,
+    stream: usize,
+    volume: u64,
+    title: &[u8],
+    bytes: &[u8],
+) -> Meter
     requires { Sound m }
     ensures { (result ≡ after_call m kind stream volume bytes.now) × Sound result }
 {
@@ -99,23 +112,23 @@ fn called(m: Meter, kind: u8, stream: usize, volume: u64, title: &[u8], bytes: &
     if kind == b'a' {
         let changed = meter::analysis(m, stream, bytes);
         let given = changed.verdict;
-        print_call(b"analysis", stream);
-        report::print_text(title);
-        print_verdict(given);
+        print_call(rt, b"analysis", stream);
+        report::print_text(rt, title);
+        print_verdict(rt, given);
         return changed.meter;
     }
     if kind == b'm' {
         let changed = meter::metering(m, stream, volume);
         let given = changed.verdict;
-        print_call(b"metering", stream);
-        report::print_spaced(volume);
-        print_verdict(given);
+        print_call(rt, b"metering", stream);
+        report::print_spaced(rt, volume);
+        print_verdict(rt, given);
         return changed.meter;
     }
     if kind == b'f' {
         return fill(m, stream);
     }
-    print_readings(m, stream);
+    print_readings(rt, m, stream);
     m
 }
 
@@ -128,7 +141,7 @@ fn number_8(bytes: &[u8], at: usize) -> u64
 }
 
 // Every call of the input, up to one that it does not hold whole.
-fn calls(input: &[u8])
+fn calls(rt: &impl Print, input: &[u8])
     requires { length input.now ≤ 2048 }
 {
     let mut m = meter::fresh();
@@ -143,6 +156,7 @@ fn calls(input: &[u8])
         let stream = number_8(input, at + 5) as usize;
         let volume = number_8(input, at + 13);
         m = called(
+            rt,
             m,
             input[at],
             stream,
@@ -154,8 +168,22 @@ fn calls(input: &[u8])
     }
 }
 
-fn main() {
+// Reads until the buffer is full, the input ends or a read fails, and answers how many bytes it put at the start of the buffer.
+fn read_full(reader: &mut impl Read, buffer: &mut [u8]) -> usize
+    ensures { (result ≤ length buffer.new) × (result ≡ length (take result buffer.new)) }
+{
+    let mut done = 0;
+    while done < buffer.len() {
+        match reader.read(&mut buffer[done..]) {
+            Ok(0) | Err(_) => break,
+            Ok(more) => done += more,
+        }
+    }
+    done
+}
+
+fn main(rt: HostRuntime) {
     let mut space = [0u8; 2048];
-    let n = io::read_full(STDIN_FILENO, &mut space);
-    calls(&space[..n]);
+    let n = read_full(&mut rt.reader(), &mut space);
+    calls(&rt, &space[..n]);
 }

@@ -1,0 +1,38 @@
+-- After i turns the sums are those of the first i parts.
+use Rattle.std.proofs.Common.{◌≡◌, refl, ap, nat_abs, add-one, arith, to_z-of_z, w64, ℤ, to_z, of_z}
+use Rattle.rounding.proofs.SignedWords.{fits64}
+use Rattle.components.specs.Composition.{total}
+use Rattle.properties.specs.Chain.{S}
+use Rattle.printed_tables.specs.Gas.{gas, fraction_at, mass_part, volume_part, sum_to}
+use Rattle.printed_tables.proofs.GasLaws.{s_value, fraction_high, mass_part_high, volume_part_high, more_fits}
+use Rattle.printed_tables.proofs.gas.gas_totals.Goals as goal
+
+s_read : (n : ℤ) → n ≡ S gas → to_z w64 (of_z w64 n) ≡ S gas
+s_read n e = rw e (to_z-of_z (fits64 (S gas) (omega (arith, s_value))))
+
+pub size-s-requires : goal.size-s-requires
+size-s-requires c = omega (arith, ap nat_abs (s_read _ c.sums-sums.ensures.summation), s_value)
+
+pub loop-i-init : goal.loop-i-init
+unfolding sum_to
+loop-i-init c = (omega arith, refl, refl, refl)
+
+pub overflow_add-x : goal.overflow_add-x
+overflow_add-x c = more_fits fraction_at (λ k h. omega (arith, fraction_high k h)) _ c.loop-i-test.true c.loop-i.invariant.1 c.fraction-x.ensures
+
+pub overflow_add-mass : goal.overflow_add-mass
+overflow_add-mass c = more_fits mass_part mass_part_high _ c.loop-i-test.true c.loop-i.invariant.2 c.mass_part-mass.ensures
+
+pub overflow_add-volume : goal.overflow_add-volume
+overflow_add-volume c = more_fits volume_part volume_part_high _ c.loop-i-test.true c.loop-i.invariant.3 c.volume_part-volume.ensures
+
+pub loop-i-preserved : goal.loop-i-preserved
+unfolding sum_to
+loop-i-preserved c = (omega arith, rw add-one (cc), rw add-one (cc), rw add-one (cc))
+
+pub returns : goal.returns
+unfolding sum_to total
+returns c =
+    let e : c.loop-i.i ≡ 8 = omega arith in
+    let inv = c.loop-i.invariant in
+    rw (c.sums-sums.ensures.superior, c.sums-sums.ensures.mass, c.size-s.ensures, s_read _ c.sums-sums.ensures.summation, inv.1, inv.2, inv.3, e)

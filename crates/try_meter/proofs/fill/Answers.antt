@@ -1,0 +1,17 @@
+-- Each call of the loop leaves the meter after one call more, and a sound one.
+use Rattle.std.proofs.Common.{refl, add-one}
+use Rattle.meter.proofs.Kept.{metering_keeps}
+use Rattle.try_meter.specs.Calls.{filled_by}
+use Rattle.try_meter.proofs.fill.Goals as goal
+
+pub loop-i-init : goal.loop-i-init
+unfolding filled_by
+loop-i-init c = (refl, c.requires)
+
+pub loop-i-preserved : goal.loop-i-preserved
+unfolding filled_by
+loop-i-preserved c =
+    let e = c.metering-changed.ensures in (
+      rw (add-one, ← c.loop-i.invariant.0) e.stands,
+      metering_keeps c.loop-i.filled c.args.stream 10000000 _ _ e c.loop-i.invariant.1,
+    )

@@ -1,0 +1,8 @@
+-- After i turns the meter is that after i calls, and sound.
+use Rattle.std.proofs.Common.{◌≡◌}
+use Rattle.meter.specs.State.{Sound}
+use Rattle.try_meter.specs.Calls.{filled_by}
+use Rattle.try_meter.proofs.fill.Given as goal
+
+abbrev pub invariant-loop-i : goal.invariant-loop-i
+invariant-loop-i l = (l.filled ≡ filled_by l.i l.initial.filled l.stream) × Sound l.filled
