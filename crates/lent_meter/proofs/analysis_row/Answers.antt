@@ -1,11 +1,6 @@
 -- The record's number, 14, or the row with the record's gas.
-use mathlib.Core.Path.{◌≡◌, refl, sym, ◌∙◌}
-use mathlib.Core.List.{List}
-use Prim.Native.Nat.{ℕ}
+use mathlib.Core.Path.{refl, sym, ◌∙◌}
 use native.Mathlib.Omega.{arith}
-use Rattle.records.specs.Order.{first_of}
-use Rattle.records.specs.Format.{combustion_in, metering_in}
-use Rattle.records.specs.Conditions.{record_order}
 use Rattle.properties.proofs.Summing.{summed}
 use Rattle.meter.specs.Calls.{analysed}
 use Rattle.lent_meter.specs.Words.{packed_stream}

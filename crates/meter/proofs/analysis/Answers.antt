@@ -1,25 +1,15 @@
 -- 13, the record's number, 14, or the stream with the record's properties.
-use mathlib.Core.Path.{◌≡◌, sym, ap, ◌∙◌}
-use mathlib.Core.List.{List}
-use mathlib.Core.Logic.{⊎_elim}
-use Prim.Native.Nat.{ℕ}
+use mathlib.Core.Path.{sym, ap, ◌∙◌}
 use native.Mathlib.Omega.{arith}
 use lib.ListN.{drop}
-use Rattle.records.specs.Order.{refused, accepted}
-use Rattle.records.proofs.Heads.{Head}
-use Rattle.properties.specs.declared.Answer.{Answer}
-use Rattle.properties.specs.declared.Answer.TheVariants.{Accepted, Refused}
-use Rattle.properties.specs.declared.Properties.{Properties}
-use Rattle.properties.specs.Chain.{six_of, properties_of}
-use Rattle.properties.specs.Answers.{numbers, meaning}
+use Rattle.properties.specs.Chain.{six_of}
 use Rattle.properties.proofs.Outcomes.{number_of_refused}
-use Rattle.meter.specs.declared.Meter.{Meter}
 use Rattle.meter.specs.State.{stream_at, with_stream}
 use Rattle.meter.specs.Conditions.{analysis_order}
 use Rattle.meter.specs.Calls.{with_gas, analysed}
 use Rattle.meter.proofs.Orders.{above}
 use Rattle.meter.proofs.Outcomes.{gives_refusal, gives_answer, written}
-use Rattle.meter.proofs.Analyses.{gas_is, record_head, record_refused, record_accepted}
+use Rattle.meter.proofs.Analyses.{gas_is, record_refused, record_accepted}
 use Rattle.meter.proofs.analysis.Goals as goal
 use Rattle.meter.proofs.analysis.Goals.{then-stream-le-LAST_STREAM+in-Refused, then-stream-le-LAST_STREAM+in-Accepted+then-refusal-eq0, then-stream-le-LAST_STREAM+in-Accepted+else-refusal-eq0, else-stream-le-LAST_STREAM}
 

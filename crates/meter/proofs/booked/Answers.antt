@@ -1,8 +1,6 @@
 -- The volume times the value, and the carry from the rest to the whole part.
-use Prim.Native.Nat.{◌*◌, ◌^◌, ◌≤◌}
-use native.Mathlib.Nat.{mul-le-mul, le_of_lt}
+use Prim.Native.Nat.{◌*◌}
 use native.Mathlib.Omega.{arith}
-use Rattle.meter.specs.State.{most_volume}
 use Rattle.meter.proofs.Registers.{carried}
 use Rattle.meter.proofs.booked.Goals as goal
 

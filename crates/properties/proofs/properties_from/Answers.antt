@@ -3,10 +3,7 @@ use mathlib.Core.Path.{◌≡◌, ap, ◌∙◌}
 use Prim.Native.Nat.{ℕ}
 use native.Mathlib.Omega.{arith}
 use lib.IntN.{ℤ}
-use mir.Syntax.{w64}
-use mir.Val.{to_z, of_z}
 use Rattle.records.specs.Format.{Contents}
-use Rattle.records.specs.Accepted.{Acceptable}
 use Rattle.properties.specs.declared.Properties.{Properties}
 use Rattle.properties.specs.Answers.{numbers}
 use Rattle.properties.specs.Chain.{temperature, divisor, air_factor, compression, tenth, real, ideal_calorific, ideal_density, ideal_relative, wobbe, root_of, Six, T, D, S9, Z, Hs, Hi, rho, A, G, d, r, W}

@@ -1,8 +1,5 @@
 -- The two digits of the volume, one after the other.
 use mathlib.Core.Path.{◌∙◌}
-use Prim.Native.Nat.{◌*◌, ◌/◌, ◌^◌, ◌≤◌}
-use native.Mathlib.Nat.{mul-le-mul, le_of_lt}
-use native.Mathlib.Omega.{arith}
 use Rattle.lent_meter.proofs.Tests.{product_is}
 use Rattle.lent_meter.proofs.held.product.Goals as goal
 

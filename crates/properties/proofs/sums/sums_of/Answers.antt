@@ -1,13 +1,13 @@
 -- The loop keeps the four sums of the entries before i; the sums over the entries are those over all lines.
 use mathlib.Core.Path.{◌≡◌, refl, sym, ap, ◌∙◌}
 use mathlib.Core.List.{List}
-use Prim.Native.Nat.{ℕ, ◌-◌, ◌<◌}
+use Prim.Native.Nat.{ℕ, ◌<◌}
 use native.Mathlib.Omega.{arith}
 use lib.ListN.{length}
 use Rattle.components.specs.Table.{superior, inferior, summation}
 use Rattle.components.specs.Composition.{sum_of}
 use Rattle.components.proofs.Summing.{sums_small, next_sums, all_sums}
-use Rattle.records.specs.Format.{combustion_in, metering_in, count_in, lines_in, contents_in}
+use Rattle.records.specs.Format.{count_in, lines_in, contents_in}
 use Rattle.records.proofs.Heads.{holds}
 use Rattle.records.proofs.Entries.{count_lines}
 use Rattle.records.proofs.RoundTrips.{accepted_head}

@@ -1,5 +1,4 @@
 use Prim.Native.Nat.{◌-◌}
-use Rattle.components.specs.Table.{superior, inferior, summation}
 use Rattle.components.proofs.Summing.{Four}
 use Rattle.records.specs.Format.{lines_in, fractions_in}
 use Rattle.properties.proofs.sums.sums_of.Given as goal

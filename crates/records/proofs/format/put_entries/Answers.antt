@@ -1,6 +1,5 @@
 -- The loop keeps that the first k entries stand in the buffer, and every other byte as it was.
 use mathlib.Core.Path.{refl, ◌∙◌}
-use Prim.Native.Nat.{◌-◌}
 use native.Mathlib.Omega.{arith}
 use Rattle.records.specs.Format.{entries_at}
 use Rattle.records.proofs.Entries.{none_written, next_written}

@@ -5,7 +5,7 @@ use Prim.Native.Nat.{ℕ, ◌≤◌}
 use native.Mathlib.Omega.{arith}
 use lib.ListN.{length}
 use Rattle.records.specs.Format.{count_in, lines_in, fractions_in}
-use Rattle.records.proofs.Entries.{filled_length, fill, full, count_lines, count_fractions}
+use Rattle.records.proofs.Entries.{fill, full, count_lines, count_fractions}
 use Rattle.records.proofs.format.read_entries.Goals as goal
 
 module _ (bytes : List ℕ) (n : ℕ) (e : n ≡ count_in bytes) where
