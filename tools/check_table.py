@@ -221,7 +221,7 @@ def component_table(tables):
 
 def hydrogen_atoms(tables):
     check = Check("atoms")
-    own = re.search(r"^hydrogenAtoms =\n((?:    .*\n)+)", specification("Rule.antt"), re.M)[1].replace("[]", "").split("∷")[:-1]
+    own = re.search(r"^hydrogen_atoms =\n((?:    .*\n)+)", specification("Rule.antt"), re.M)[1].replace("[]", "").split("∷")[:-1]
     for line, (one, formula) in enumerate(zip(own, FORMULAS, strict=True), 1):
         two = (atoms(formula) or {"H": 0})["H"]
         check.compare(line, formula, one.strip(), two, int(one) == two, False)

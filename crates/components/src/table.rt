@@ -1,6 +1,6 @@
 // The component table: tables 1 to 3 of ISO 6976:1995, one component a row. The columns: molar mass (0.0001 kg/kmol);
 // summation factor at 0, 15 and 20 °C (0.0001); calorific value, superior and inferior, at 25, 20, 15 and 0 °C (0.001 kJ/mol).
-// `rt fmt` breaks a row of twelve numbers over lines; behind its last line stands the component.
+// `rt fmt` lays a row out over one to four lines; behind the last stands the component.
 ghost use Rattle.std.specs.Prelude.{◌≡◌, ◌≤◌};
 ghost use Rattle.components.specs.Table.{row_of};
 

@@ -1,6 +1,7 @@
-// The library for firmware in C and Rust: the meter in words that the caller lends, the properties of a record, its calorific values per
-// kilogram, and records read and written. include/loonstool.h declares its functions for C, rust/ wraps them for Rust. Each call that
-// may be refused gives 0, or document 01's number; a refusal leaves what the caller lent as it was.
+// What firmware in C and Rust calls: the meter in words that the caller lends, the properties of a record, its calorific values per
+// kilogram, and records read and written. crates/loonstool_c exports each of these functions; include/loonstool.h declares the exports for
+// C, rust/ wraps them for Rust. Each call that may be refused gives 0, or document 01's number; a refusal leaves what the caller lent as it
+// was.
 #![tactic(auto)]
 
 ghost use Rattle.std.specs.Prelude.{◌≡◌, ℕ};

@@ -1,4 +1,5 @@
 // The static library that firmware links: each function that include/loonstool.h declares, by that of crates/loonstool, with its clauses.
+// proofs/Cited.antt shows of the meter's calls that their contracts are those of which crates/tally speaks.
 #![tactic(auto)]
 
 ghost use Rattle.std.specs.Prelude.{◌≡◌, ℕ};
@@ -8,7 +9,6 @@ ghost use Rattle.records.specs.Calls.{reading_of, writing_of};
 ghost use Rattle.records.specs.Answers.{held, Returns};
 ghost use Rattle.properties.specs.Chain.{properties_of};
 ghost use Rattle.properties.specs.PerKilogram.{per_kilogram_of};
-ghost use Rattle.properties.specs.Answers.{numbers};
 ghost use Rattle.meter.specs.declared.Meter.{Meter};
 ghost use Rattle.meter.specs.State.{fresh_meter};
 ghost use Rattle.meter.specs.Calls.{analysis_of, metering_of, totals_of, mean_of, mean_inferior_of};

@@ -1,5 +1,5 @@
--- The functions whose contracts `Run` and `LentRun` read are proved (`-proved`: their theorems, by name), and what these read of a
--- contract is what a caller knows by it (`-read`). `lent-` stands before the exported functions of the lent meter.
+-- The functions whose contracts `Run` and `LentRun` read are proved (`_proved`: their theorems, by name), and what these read of a
+-- contract is what a caller knows by it (`_read`). `lent_` stands before the functions of crates/loonstool on the lent meter.
 use borrow.Fn.Picked.{KnownAs}
 use Rattle.meter.proofs.fresh as fresh
 use Rattle.meter.proofs.analysis as analysis

@@ -1,5 +1,5 @@
--- What the exported functions of crates/loonstool did on lent words in a list of calls, and demand 3 of it: each run on words is a run of
--- the meter that the words hold.
+-- What the functions of crates/loonstool, each of which the static library exports with the same contract, did on lent words in a list of
+-- calls, and demand 3 of it: each run on words is a run of the meter that the words hold.
 use Rattle.std.specs.Prelude.{◌≡◌, Bool, List, [], ◌∷◌, ◌++◌, ℕ, get_or}
 use contract.Lifetimes.{Lfts}
 use Rattle.std.specs.Borrow.{Bor, MutBor}
