@@ -92,8 +92,8 @@ pub fn no_sums() -> Sums
 
 // The sums with one more entry: h at the t-th of 25, 20, 15 and 0 °C, and s at the k-th of 0, 15 and 20 °C, each counted from 0.
 pub fn add_to_sums(sums: Sums, line: u8, fraction: u32, t: usize, k: usize) -> Sums
-    requires le_line { (1 ≤ line) × (line ≤ 55) × (t < 4) × (k < 3) }
-    requires superior_bound { (sums.superior < 2 ^ 62) × (sums.inferior < 2 ^ 62) × (sums.mass < 2 ^ 62) × (nat_abs sums.summation < 2 ^ 62) }
+    requires in_table { (1 ≤ line) × (line ≤ 55) × (t < 4) × (k < 3) }
+    requires room { (sums.superior < 2 ^ 62) × (sums.inferior < 2 ^ 62) × (sums.mass < 2 ^ 62) × (nat_abs sums.summation < 2 ^ 62) }
     ensures superior { pos result.superior ≡ pos sums.superior +ℤ pos fraction *ℤ entry_of line (superior t) }
     ensures inferior { pos result.inferior ≡ pos sums.inferior +ℤ pos fraction *ℤ entry_of line (inferior t) }
     ensures mass { pos result.mass ≡ pos sums.mass +ℤ pos fraction *ℤ entry_of line molar_mass }

@@ -108,7 +108,7 @@ fn holds_gas(row: &Row) -> bool
 // Volume × value as a register, `unit` of whose rest make one whole.
 fn product(unit: u64, volume: u64, value: u64) -> Register
     requires register_unit { RegisterUnit unit }
-    requires volume_le_most_total { (volume ≤ most_total) × (value < 2 ^ 32) }
+    requires factors { (volume ≤ most_total) × (value < 2 ^ 32) }
     ensures { result ≡ booked unit nothing_booked (volume * value) }
 {
     let share = unit / BASE;
@@ -130,7 +130,7 @@ fn at_most(register: Register, most: Register) -> bool
 // Whether a register is one of a volume, at values from the floor to the ceiling.
 fn holds_register(register: Register, unit: u64, volume: u64, floor: u64, ceiling: u64) -> bool
     requires register_unit { RegisterUnit unit }
-    requires volume_le_most_total { (volume ≤ most_total) × (floor < 2 ^ 32) × (ceiling < 2 ^ 32) }
+    requires factors { (volume ≤ most_total) × (floor < 2 ^ 32) × (ceiling < 2 ^ 32) }
     ensures { Tells result (SoundRegister unit floor ceiling volume register) }
 {
     (register.rest < unit)

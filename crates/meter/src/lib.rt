@@ -204,8 +204,8 @@ fn volume_refusal(fifteen: bool, sixteen: bool, seventeen: bool) -> u8
 
 // The register with volume × value more, in units of its rest, `unit` of which make one whole.
 pub fn booked(before: Register, unit: u64, volume: u64, value: u64) -> Register
-    requires rest_lt_unit { (before.rest < unit) × (unit < 2 ^ 62) × (before.whole < 2 ^ 63) }
-    requires volume_le_most_volume { (volume ≤ most_volume) × (value < 2 ^ 32) }
+    requires register { (before.rest < unit) × (unit < 2 ^ 62) × (before.whole < 2 ^ 63) }
+    requires factors { (volume ≤ most_volume) × (value < 2 ^ 32) }
     ensures { result ≡ booked unit before (volume * value) }
 {
     let more = volume * value;
@@ -219,7 +219,7 @@ pub fn booked(before: Register, unit: u64, volume: u64, value: u64) -> Register
 // The totals with the volume, volume × Hs and volume × Hi in mJ, and volume × rho in 10^-11 kg, added.
 pub fn added(before: StreamTotals, properties: Properties, volume: u64) -> StreamTotals
     requires sound_totals { SoundTotals before × Bounded (numbers properties) }
-    requires volume_le_most_volume { (volume ≤ most_volume) × (before.volume + volume ≤ most_total) }
+    requires volume { (volume ≤ most_volume) × (before.volume + volume ≤ most_total) }
     ensures { result ≡ added before properties volume }
 {
     let superior = booked(before.superior, PER_MJ, volume, properties.hs.value());
@@ -236,7 +236,7 @@ pub fn added(before: StreamTotals, properties: Properties, volume: u64) -> Strea
 // The stream with the volume added. With no analysis, 16 has refused it.
 fn metered(before: Stream, volume: u64) -> Stream
     requires sound_stream { SoundStream before }
-    requires volume_le_most_volume { (volume ≤ most_volume) × (before.totals.volume + volume ≤ most_total) }
+    requires volume { (volume ≤ most_volume) × (before.totals.volume + volume ≤ most_total) }
     ensures { result ≡ metered before volume }
 {
     let analysis = before.analysis;

@@ -102,7 +102,7 @@ pub fn fraction_in(bytes: &[u8], k: usize) -> u32
 // The entries, at most 55, into two arrays that hold 0.
 pub fn read_entries(bytes: &[u8], lines: &mut [u8], fractions: &mut [u32])
     requires bytes_in_bounds { (record_length (count_in bytes.now) ≤ length bytes.now) × (count_in bytes.now ≤ 55) }
-    requires lines_value { (lines.old ≡ replicate 55 0) × (fractions.old ≡ replicate 55 0) }
+    requires blank { (lines.old ≡ replicate 55 0) × (fractions.old ≡ replicate 55 0) }
     ensures { (lines.new ≡ padded (lines_in bytes.now)) × (fractions.new ≡ padded (fractions_in bytes.now)) }
 {
     let n = count_in(bytes);
@@ -144,7 +144,7 @@ fn put_entry(out: &mut [u8], at: usize, line: u8, fraction: u32)
 // The entries, where they begin.
 fn put_entries(out: &mut [u8], lines: &[u8], fractions: &[u32])
     requires lines_len { (length lines.now ≡ length fractions.now) × (length lines.now ≤ 55) }
-    requires lines_in_bounds { record_length (length lines.now) ≤ length out.old }
+    requires room { record_length (length lines.now) ≤ length out.old }
     ensures { out.new ≡ placed out.old entries_at (entries_bytes lines.now fractions.now) }
 {
     let mut k = 0;
@@ -157,7 +157,7 @@ fn put_entries(out: &mut [u8], lines: &[u8], fractions: &[u32])
 // Contents as a record into the first bytes of a buffer that has room for it.
 pub fn put_record(combustion: u8, metering: u8, lines: &[u8], fractions: &[u32], out: &mut [u8])
     requires lines_len { (length lines.now ≡ length fractions.now) × (length lines.now ≤ 55) }
-    requires lines_in_bounds { record_length (length lines.now) ≤ length out.old }
+    requires room { record_length (length lines.now) ≤ length out.old }
     ensures { out.new ≡ placed out.old 0 (bytes_of (contents combustion metering lines.now fractions.now)) }
 {
     put_head(out, combustion, metering, lines.len() as u8);

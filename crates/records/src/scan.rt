@@ -104,8 +104,8 @@ fn lines_refusal(bytes: &[u8]) -> u8
 
 // 8 to 12 of a record where none of 1 to 7 holds.
 fn fractions_refusal(bytes: &[u8]) -> u8
-    requires bytes_value { first_of (head_order bytes.now) ≡ 0 }
-    requires bytes_value_2 { line_breaks 0 (lines_in bytes.now) ≡ false }
+    requires head_clear { first_of (head_order bytes.now) ≡ 0 }
+    requires lines_clear { line_breaks 0 (lines_in bytes.now) ≡ false }
     ensures { result ≡ first_of (fractions_order (lines_in bytes.now) (fractions_in bytes.now)) }
 {
     let n = format::count_in(bytes);
@@ -159,7 +159,7 @@ fn listed_lines_refusal(lines: &[u8]) -> u8
 fn listed_fractions_refusal(lines: &[u8], fractions: &[u32]) -> u8
     requires lines_len { length lines.now ≡ length fractions.now }
     requires fractions_len_bound { length fractions.now ≤ 55 }
-    requires lines_value { line_breaks 0 lines.now ≡ false }
+    requires lines_clear { line_breaks 0 lines.now ≡ false }
     ensures { result ≡ first_of (fractions_order lines.now fractions.now) }
 {
     let mut scan = no_entries();

@@ -32,25 +32,25 @@ pub add_unsigned-requires : goal.add_unsigned-requires
 add_unsigned-requires c =
     let a = c.args in (
       unsigned a.line a.fraction (superior a.t) c.row-row.result c.row-row.ensures _ c.superior.ensures (inr (omega arith, omega arith)),
-      room a.line a.fraction (superior a.t) c.row-row.result c.row-row.ensures _ c.superior.ensures (omega arith) _ c.requires.superior_bound.0,
+      room a.line a.fraction (superior a.t) c.row-row.result c.row-row.ensures _ c.superior.ensures (omega arith) _ c.requires.room.0,
     )
 
 pub add_unsigned-requires-2 : goal.add_unsigned-requires-2
 add_unsigned-requires-2 c =
     let a = c.args in (
       unsigned a.line a.fraction (inferior a.t) c.row-row.result c.row-row.ensures _ c.inferior.ensures (inr (omega arith, omega arith)),
-      room a.line a.fraction (inferior a.t) c.row-row.result c.row-row.ensures _ c.inferior.ensures (omega arith) _ c.requires.superior_bound.1,
+      room a.line a.fraction (inferior a.t) c.row-row.result c.row-row.ensures _ c.inferior.ensures (omega arith) _ c.requires.room.1,
     )
 
 pub add_unsigned-requires-3 : goal.add_unsigned-requires-3
 add_unsigned-requires-3 c =
     let a = c.args in (
       unsigned a.line a.fraction molar_mass c.row-row.result c.row-row.ensures _ refl (inl refl),
-      room a.line a.fraction molar_mass c.row-row.result c.row-row.ensures _ refl (omega arith) _ c.requires.superior_bound.2,
+      room a.line a.fraction molar_mass c.row-row.result c.row-row.ensures _ refl (omega arith) _ c.requires.room.2,
     )
 
 pub add_product-requires : goal.add_product-requires
 add_product-requires c =
     let a = c.args in
-    let e : to_z w64 (of_z w64 a.sums.summation) ≡ a.sums.summation = to_z-of_z (fits64 _ (omega (arith, c.requires.superior_bound.3))) in
-    rw e (room a.line a.fraction (summation a.k) c.row-row.result c.row-row.ensures _ c.summation.ensures (omega arith) _ c.requires.superior_bound.3)
+    let e : to_z w64 (of_z w64 a.sums.summation) ≡ a.sums.summation = to_z-of_z (fits64 _ (omega (arith, c.requires.room.3))) in
+    rw e (room a.line a.fraction (summation a.k) c.row-row.result c.row-row.ensures _ c.summation.ensures (omega arith) _ c.requires.room.3)

@@ -7,4 +7,4 @@ use Rattle.meter.proofs.booked.Goals as goal
 pub returns : goal.returns
 returns c =
     let a = c.args in
-    carried a.unit (omega (arith, c.requires.rest_lt_unit.0)) a.before (a.volume * a.value)
+    carried a.unit (omega (arith, c.requires.register.0)) a.before (a.volume * a.value)

@@ -5,7 +5,7 @@ use Rattle.records.specs.Format.{contents}
 use Rattle.records.proofs.Heads.{room_of}
 use Rattle.records.proofs.write.Goals as goal
 
-pub put_record-requires-clause-lines_in_bounds : goal.put_record-requires-clause-lines_in_bounds
-put_record-requires-clause-lines_in_bounds c =
+pub put_record-requires-clause-room : goal.put_record-requires-clause-room
+put_record-requires-clause-room c =
     let a = c.args in
     (room_of (contents a.combustion a.metering a.lines.now a.fractions.now) (length a.out.now) (sym c.writer_refusal-refusal.ensures ∙ c.if-refusal-eq0.true)).fits

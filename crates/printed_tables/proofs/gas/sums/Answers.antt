@@ -13,8 +13,8 @@ loop-i-init c = rw c.no_sums-sums.ensures (no_sums _ _ _ _)
 pub add_to_sums-sums-requires : goal.add_to_sums-sums-requires
 add_to_sums-sums-requires c = let l = line_in _ c.loop-i-test.true in
     record {
-      le_line = (l.0, l.1, omega arith, omega arith);
-      superior_bound = sums_small c.loop-i.invariant composition;
+      in_table = (l.0, l.1, omega arith, omega arith);
+      room = sums_small c.loop-i.invariant composition;
     }
 
 pub loop-i-preserved : goal.loop-i-preserved

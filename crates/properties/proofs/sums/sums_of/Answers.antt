@@ -38,8 +38,8 @@ add_to_sums-sums-requires c =
     let known : c.combustion_place-t.result < 4 = rw c.combustion_place-t.ensures (combustion_place_lem c.combustion_in.result) in
     let known_k : c.metering_place-k.result < 3 = rw c.metering_place-k.ensures (metering_place_lem c.metering_in.result) in
     record {
-      le_line = (rw c.line_in-line.ensures l.0, rw c.line_in-line.ensures l.1, known, known_k);
-      superior_bound = sums_small c.loop-i.invariant good;
+      in_table = (rw c.line_in-line.ensures l.0, rw c.line_in-line.ensures l.1, known, known_k);
+      room = sums_small c.loop-i.invariant good;
     }
 
 pub loop-i-preserved : goal.loop-i-preserved
