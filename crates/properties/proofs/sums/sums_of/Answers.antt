@@ -9,7 +9,7 @@ use Rattle.components.specs.Composition.{sum_of}
 use Rattle.components.proofs.Summing.{sums_small, next_sums, all_sums}
 use Rattle.records.specs.Format.{count_in, lines_in, contents_in}
 use Rattle.records.proofs.Heads.{holds}
-use Rattle.records.proofs.Entries.{count_lines}
+use Rattle.records.specs.Counted.{count_lines}
 use Rattle.records.proofs.RoundTrips.{accepted_head}
 use Rattle.records.proofs.Accepted.{acceptable}
 use Rattle.properties.specs.Chain.{combustion_place, metering_place, HmSuperior, HmInferior, M, S}
