@@ -1,34 +1,34 @@
 // 1. The sums of a record over the component table.
 ghost use Rattle.std.specs.Prelude.{◌≡◌};
+ghost use Rattle.components.specs.Temperatures.{heat_place, summation_place};
 ghost use Rattle.records.specs.Order.{first_of};
 ghost use Rattle.records.specs.Format.{contents_in};
 ghost use Rattle.records.specs.Conditions.{record_order};
 ghost use Rattle.properties.specs.Chain.{combustion_place, metering_place, HmSuperior, HmInferior, M, S};
 
-use super::steps;
-use components::Sums;
+use components::{Combustion, Metering, Sums};
 
-// The place of a combustion temperature among 25, 20, 15 and 0 °C.
-fn combustion_place(combustion: u8) -> usize
-    ensures { result ≡ combustion_place combustion }
+// The combustion temperature of the table, from its °C.
+fn combustion_of(celsius: u8) -> Combustion
+    ensures { heat_place result ≡ combustion_place celsius }
 {
-    if combustion == 25 {
-        return 0;
+    match celsius {
+        25 => Combustion::At25,
+        20 => Combustion::At20,
+        15 => Combustion::At15,
+        _ => Combustion::At0,
     }
-    if combustion == 20 {
-        return 1;
-    }
-    if combustion == 15 {
-        return 2;
-    }
-    3
 }
 
-// The place of a metering temperature among 0, 15 and 20 °C.
-fn metering_place(metering: u8) -> usize
-    ensures { result ≡ metering_place metering }
+// The metering temperature of the table, from its °C.
+fn metering_of(celsius: u8) -> Metering
+    ensures { summation_place result ≡ metering_place celsius }
 {
-    steps::for_metering(0, 1, 2, metering) as usize
+    match celsius {
+        0 => Metering::At0,
+        15 => Metering::At15,
+        _ => Metering::At20,
+    }
 }
 
 // The sums of an accepted record, in one pass over its entries.
@@ -39,15 +39,15 @@ pub fn sums_of(bytes: &[u8]) -> Sums
     ensures mass { result.mass ≡ M (contents_in bytes.now) }
     ensures summation { result.summation ≡ S (contents_in bytes.now) }
 {
-    let t = combustion_place(records::combustion_in(bytes));
-    let k = metering_place(records::metering_in(bytes));
+    let combustion = combustion_of(records::combustion_in(bytes));
+    let metering = metering_of(records::metering_in(bytes));
     let n = records::count_in(bytes);
-    let mut sums = components::no_sums();
+    let mut sums = Sums::default();
     let mut i = 0;
     while i < n {
         let line = records::line_in(bytes, i);
         let fraction = records::fraction_in(bytes, i);
-        sums = components::add_to_sums(sums, line, fraction, t, k);
+        sums.add(line, fraction, combustion, metering);
         i += 1;
     }
     sums

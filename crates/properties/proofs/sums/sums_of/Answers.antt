@@ -13,7 +13,6 @@ use Rattle.records.proofs.Entries.{count_lines}
 use Rattle.records.proofs.RoundTrips.{accepted_head}
 use Rattle.records.proofs.Accepted.{acceptable}
 use Rattle.properties.specs.Chain.{combustion_place, metering_place, HmSuperior, HmInferior, M, S}
-use Rattle.properties.proofs.StepBounds.{combustion_place_lem, metering_place_lem}
 use Rattle.properties.proofs.Gas.{amount_is, over_entries}
 use Rattle.properties.proofs.sums.sums_of.Goals as goal
 
@@ -29,16 +28,13 @@ pub fraction_in-fraction-requires : goal.fraction_in-fraction-requires
 fraction_in-fraction-requires c =
     record { bytes_in_bounds = holds (accepted_head c.args.bytes.now c.requires); k_bound = omega (arith, c.count_in-n.ensures.0) }
 
-pub add_to_sums-sums-requires : goal.add_to_sums-sums-requires
-add_to_sums-sums-requires c =
+pub add-requires : goal.add-requires
+add-requires c =
     let bs = c.args.bytes.now in
-    let e = c.count_in-n.ensures.0 in
     let good = (acceptable bs c.requires).composition in
-    let l = good.lines c.loop-i.i (omega (arith, count_is bs _ e)) in
-    let known : c.combustion_place-t.result < 4 = rw c.combustion_place-t.ensures (combustion_place_lem c.combustion_in.result) in
-    let known_k : c.metering_place-k.result < 3 = rw c.metering_place-k.ensures (metering_place_lem c.metering_in.result) in
+    let l = good.lines c.loop-i.i (omega (arith, count_is bs _ c.count_in-n.ensures.0)) in
     record {
-      in_table = (rw c.line_in-line.ensures l.0, rw c.line_in-line.ensures l.1, known, known_k);
+      in_table = (rw c.line_in-line.ensures l.0, rw c.line_in-line.ensures l.1);
       room = sums_small c.loop-i.invariant good;
     }
 
@@ -46,7 +42,7 @@ pub loop-i-preserved : goal.loop-i-preserved
 loop-i-preserved c =
     let bs = c.args.bytes.now in
     let e = c.count_in-n.ensures.0 in
-    let s = c.add_to_sums-sums.ensures in
+    let s = c.add.ensures in
     let l = c.line_in-line.ensures in
     let x = c.fraction_in-fraction.ensures in
     next_sums c.loop-i.invariant (acceptable bs c.requires).composition (omega (arith, count_is bs _ e))
@@ -58,8 +54,8 @@ returns c =
     let bs = c.args.bytes.now in
     let k = contents_in bs in
     let a = acceptable bs c.requires in
-    let t = c.combustion_place-t.ensures ∙ ap combustion_place c.combustion_in.ensures in
-    let j = c.metering_place-k.ensures ∙ ap metering_place c.metering_in.ensures in
+    let t = c.combustion_of-combustion.ensures ∙ ap combustion_place c.combustion_in.ensures in
+    let j = c.metering_of-metering.ensures ∙ ap metering_place c.metering_in.ensures in
     let e = all_sums c.loop-i.invariant (omega (arith, count_is bs _ c.count_in-n.ensures.0)) in
     record {
       superior = amount_is k a (ap superior t) _ e.0;
