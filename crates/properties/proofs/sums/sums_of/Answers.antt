@@ -1,7 +1,7 @@
 -- The loop keeps the four sums of the entries before i; the sums over the entries are those over all lines.
 use mathlib.Core.Path.{◌≡◌, refl, sym, ap, ◌∙◌}
 use mathlib.Core.List.{List}
-use Prim.Native.Nat.{ℕ, ◌<◌}
+use Prim.Native.Nat.{ℕ}
 use native.Mathlib.Omega.{arith}
 use lib.ListN.{length}
 use Rattle.components.specs.Table.{superior, inferior, summation}
