@@ -166,10 +166,7 @@ impl Stream {
     fn pair_differs(&self, pair: Pair) -> bool
         ensures { result ≡ pair_differs self.now.analysis pair.combustion pair.metering }
     {
-        match self.analysis {
-            None => false,
-            Some(gas) => gas.pair != pair,
-        }
+        self.analysis.is_some_and(|gas| gas.pair != pair)
     }
 
     // The properties of a record come into force, where 13 does not hold.
@@ -256,10 +253,9 @@ impl Meter {
     pub fn totals(&self, stream: usize) -> TotalsAnswer
         ensures { totals_meaning result ≡ totals_of self.now stream }
     {
-        if LAST_STREAM < stream {
+        let Some(named) = self.streams.get(stream) else {
             return TotalsAnswer::Refused(13);
-        }
-        let named = &self.streams[stream];
+        };
         TotalsAnswer::Accepted(named.totals)
     }
 
@@ -267,9 +263,9 @@ impl Meter {
     pub fn mean(&self, stream: usize, energy: Energy) -> MeanAnswer
         ensures { mean_meaning result ≡ mean_for energy self.now stream }
     {
-        if LAST_STREAM < stream {
+        let Some(named) = self.streams.get(stream) else {
             return MeanAnswer::Refused(13);
-        }
-        self.streams[stream].mean(energy)
+        };
+        named.mean(energy)
     }
 }
