@@ -3,8 +3,6 @@ use mathlib.Core.Path.{◌≡◌, ◌∙◌}
 use mathlib.Core.List.{List}
 use Prim.Native.Nat.{ℕ}
 use lib.IntN.{ℤ}
-use mir.Syntax.{w64}
-use mir.Val.{to_z, of_z}
 use Rattle.records.specs.Order.{first_of}
 use Rattle.records.specs.Format.{Contents, metering_in, contents_in}
 use Rattle.records.specs.Conditions.{record_order}
@@ -18,21 +16,9 @@ module _ (bs : List ℕ) (clear : first_of (record_order bs) ≡ 0) where
   abbrev k : Contents
   k = contents_in bs
 
-  good : Acceptable k
-  good = acceptable bs clear
+  module _ {superior inferior mass metering : ℕ} {summation : ℤ} (hs : superior ≡ HmSuperior k) (hi : inferior ≡ HmInferior k) (m : mass ≡ M k) (s : summation ≡ S k) (is : metering ≡ metering_in bs) where
+    pub sums_are : SumsOf k superior inferior mass summation metering
+    sums_are = record { superior_is = hs; inferior_is = hi; mass_is = m; summation_is = s; metering_is = is }
 
-  module _ {superior inferior mass metering : ℕ} {summation : ℤ}
-      (sums : (superior ≡ HmSuperior k) × ((inferior ≡ HmInferior k) × ((mass ≡ M k) × (summation ≡ S k)))) (is : metering ≡ metering_in bs) where
-    pub sums_are : SumsOf k superior inferior mass (to_z w64 (of_z w64 summation)) metering
-    sums_are =
-        let s = sums.1.1.1 in
-        record {
-          superior_is = sums.0;
-          inferior_is = sums.1.0;
-          mass_is = sums.1.1.0;
-          summation_is = summation_word k good s ∙ s;
-          metering_is = is;
-        }
-
-    pub summed : Summed superior inferior mass (to_z w64 (of_z w64 summation)) metering
-    summed = record { gas = k; acceptable = good; sums = sums_are }
+    pub summed : Summed superior inferior mass summation metering
+    summed = record { gas = k; acceptable = acceptable bs clear; sums = sums_are }

@@ -1,11 +1,10 @@
 -- The answers of the calls on a record: document 01's number, or the six properties or the two values per kilogram, for each case.
-use Rattle.records.specs.Order.{Outcome, refused, accepted}
+use Rattle.std.specs.Prelude.{Result}
+use Rattle.records.specs.declared.refusal.Refusal.{Refusal}
+use Rattle.records.specs.Order.{Outcome}
+use Rattle.records.specs.Refusals.{outcome}
 use Rattle.properties.specs.declared.Properties.{Properties}
-use Rattle.properties.specs.declared.Answer.{Answer}
-use Rattle.properties.specs.declared.Answer.TheVariants.{Accepted, Refused}
 use Rattle.properties.specs.declared.PerKilogram.{PerKilogram}
-use Rattle.properties.specs.declared.PerKilogramAnswer.{PerKilogramAnswer}
-use Rattle.properties.specs.declared.PerKilogramAnswer.TheVariants as per_kilogram
 use Rattle.properties.specs.Chain.{Six}
 use Rattle.properties.specs.PerKilogram.{MassBasis}
 
@@ -34,15 +33,13 @@ quantities p =
     }
 
 -- document 01's number, or the properties, of each case of an answer
-abbrev pub meaning : Answer → Outcome Six
-meaning (Accepted p) = accepted (numbers p)
-meaning (Refused n) = refused n
+abbrev pub meaning : Result Properties Refusal → Outcome Six
+meaning = outcome numbers
 
 -- the numbers of the values per kilogram
 abbrev pub per_kilogram_numbers : PerKilogram → MassBasis
 per_kilogram_numbers v = record { superior = v.superior.value; inferior = v.inferior.value }
 
 -- document 01's number, or the values per kilogram, of each case of an answer
-abbrev pub per_kilogram_meaning : PerKilogramAnswer → Outcome MassBasis
-per_kilogram_meaning (per_kilogram.Accepted v) = accepted (per_kilogram_numbers v)
-per_kilogram_meaning (per_kilogram.Refused n) = refused n
+abbrev pub per_kilogram_meaning : Result PerKilogram Refusal → Outcome MassBasis
+per_kilogram_meaning = outcome per_kilogram_numbers

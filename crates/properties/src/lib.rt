@@ -3,10 +3,8 @@
 #![tactic(auto)]
 
 ghost use Rattle.std.specs.Prelude.{◌≡◌};
-ghost use Rattle.records.specs.Order.{first_of};
 ghost use Rattle.records.specs.Format.{contents_in};
-ghost use Rattle.records.specs.Conditions.{record_order};
-ghost use Rattle.properties.specs.Chain.{properties_of};
+ghost use Rattle.properties.specs.Chain.{six_of, properties_of};
 ghost use Rattle.properties.specs.PerKilogram.{mass_basis_of, per_kilogram_of};
 ghost use Rattle.properties.specs.Accepted.{Summed, SixOfSums};
 ghost use Rattle.properties.specs.Answers.{numbers, meaning, per_kilogram_numbers, per_kilogram_meaning};
@@ -15,9 +13,11 @@ pub mod quantities;
 pub mod steps;
 pub mod sums;
 
+use components::Sums;
 use quantities::{
     CalorificValue, CompressionFactor, Density, MassCalorificValue, RelativeDensity, WobbeIndex,
 };
+use records::{Record, Refusal};
 
 // The six properties.
 #[derive(Clone, Copy)]
@@ -30,30 +30,17 @@ pub struct Properties {
     pub w: WobbeIndex,
 }
 
-// The properties, or document 01's number.
-#[derive(Clone, Copy)]
-pub enum Answer {
-    Accepted(Properties),
-    Refused(u8),
-}
-
 // The properties of a gas that no condition refuses, from its sums and its metering temperature in °C.
-pub fn properties_from(
-    superior: u64,
-    inferior: u64,
-    mass: u64,
-    summation: i64,
-    metering: u8,
-) -> Properties
-    requires { Summed superior inferior mass summation metering }
-    ensures { SixOfSums superior inferior mass summation metering (numbers result) }
+pub fn properties_from(sums: Sums, metering: u8) -> Properties
+    requires { Summed sums.superior sums.inferior sums.mass sums.summation metering }
+    ensures { SixOfSums sums.superior sums.inferior sums.mass sums.summation metering (numbers result) }
 {
     let air = steps::air_factor(metering);
-    let z = steps::compression_factor(summation);
-    let hs = steps::calorific_value(superior, metering, z);
-    let hi = steps::calorific_value(inferior, metering, z);
-    let rho = steps::density(mass, metering, z);
-    let d = steps::relative_density(mass, air, z);
+    let z = steps::compression_factor(sums.summation);
+    let hs = steps::calorific_value(sums.superior, metering, z);
+    let hi = steps::calorific_value(sums.inferior, metering, z);
+    let rho = steps::density(sums.mass, metering, z);
+    let d = steps::relative_density(sums.mass, air, z);
     let w = steps::wobbe_index(hs, d);
     Properties {
         z,
@@ -65,23 +52,18 @@ pub fn properties_from(
     }
 }
 
+// The properties of an accepted record.
+pub fn properties_in(accepted: &Record) -> Properties
+    ensures { numbers result ≡ six_of (contents_in accepted.now.bytes.now) }
+{
+    properties_from(sums::sums_of(accepted), accepted.metering())
+}
+
 // The properties of a record.
-pub fn properties_of(bytes: &[u8]) -> Answer
+pub fn properties_of(bytes: &[u8]) -> Result<Properties, Refusal>
     ensures { meaning result ≡ properties_of bytes.now }
 {
-    let refusal = records::refusal(bytes);
-    if refusal != 0 {
-        return Answer::Refused(refusal);
-    }
-    let sums = sums::sums_of(bytes);
-    let metering = records::metering_in(bytes);
-    Answer::Accepted(properties_from(
-        sums.superior,
-        sums.inferior,
-        sums.mass,
-        sums.summation,
-        metering,
-    ))
+    Ok(properties_in(&Record::new(bytes)?))
 }
 
 // The calorific values per kilogram.
@@ -91,31 +73,20 @@ pub struct PerKilogram {
     pub inferior: MassCalorificValue,
 }
 
-// The values per kilogram, or document 01's number.
-#[derive(Clone, Copy)]
-pub enum PerKilogramAnswer {
-    Accepted(PerKilogram),
-    Refused(u8),
-}
-
 // The values per kilogram of an accepted record.
-fn calculate_per_kilogram(bytes: &[u8]) -> PerKilogram
-    requires { first_of (record_order bytes.now) ≡ 0 }
-    ensures { per_kilogram_numbers result ≡ mass_basis_of (contents_in bytes.now) }
+pub fn per_kilogram_in(accepted: &Record) -> PerKilogram
+    ensures { per_kilogram_numbers result ≡ mass_basis_of (contents_in accepted.now.bytes.now) }
 {
-    let sums = sums::sums_of(bytes);
-    let superior = steps::per_kilogram(sums.superior, sums.mass);
-    let inferior = steps::per_kilogram(sums.inferior, sums.mass);
-    PerKilogram { superior, inferior }
+    let sums = sums::sums_of(accepted);
+    PerKilogram {
+        superior: steps::per_kilogram(sums.superior, sums.mass),
+        inferior: steps::per_kilogram(sums.inferior, sums.mass),
+    }
 }
 
 // The values per kilogram of a record.
-pub fn per_kilogram_of(bytes: &[u8]) -> PerKilogramAnswer
+pub fn per_kilogram_of(bytes: &[u8]) -> Result<PerKilogram, Refusal>
     ensures { per_kilogram_meaning result ≡ per_kilogram_of bytes.now }
 {
-    let refusal = records::refusal(bytes);
-    if refusal != 0 {
-        return PerKilogramAnswer::Refused(refusal);
-    }
-    PerKilogramAnswer::Accepted(calculate_per_kilogram(bytes))
+    Ok(per_kilogram_in(&Record::new(bytes)?))
 }

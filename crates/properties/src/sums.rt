@@ -1,12 +1,11 @@
 // 1. The sums of a record over the component table.
 ghost use Rattle.std.specs.Prelude.{◌≡◌};
-ghost use Rattle.records.specs.Order.{first_of};
 ghost use Rattle.records.specs.Format.{contents_in};
-ghost use Rattle.records.specs.Conditions.{record_order};
 ghost use Rattle.properties.specs.Chain.{combustion_place, metering_place, HmSuperior, HmInferior, M, S};
 
 use super::steps;
 use components::Sums;
+use records::{Entries, Record};
 
 // The place of a combustion temperature among 25, 20, 15 and 0 °C.
 fn combustion_place(combustion: u8) -> usize
@@ -32,23 +31,18 @@ fn metering_place(metering: u8) -> usize
 }
 
 // The sums of an accepted record, in one pass over its entries.
-pub fn sums_of(bytes: &[u8]) -> Sums
-    requires { first_of (record_order bytes.now) ≡ 0 }
-    ensures superior { result.superior ≡ HmSuperior (contents_in bytes.now) }
-    ensures inferior { result.inferior ≡ HmInferior (contents_in bytes.now) }
-    ensures mass { result.mass ≡ M (contents_in bytes.now) }
-    ensures summation { result.summation ≡ S (contents_in bytes.now) }
+pub fn sums_of(accepted: &Record) -> Sums
+    ensures superior { result.superior ≡ HmSuperior (contents_in accepted.now.bytes.now) }
+    ensures inferior { result.inferior ≡ HmInferior (contents_in accepted.now.bytes.now) }
+    ensures mass { result.mass ≡ M (contents_in accepted.now.bytes.now) }
+    ensures summation { result.summation ≡ S (contents_in accepted.now.bytes.now) }
 {
-    let t = combustion_place(records::combustion_in(bytes));
-    let k = metering_place(records::metering_in(bytes));
-    let n = records::count_in(bytes);
+    let t = combustion_place(accepted.combustion());
+    let k = metering_place(accepted.metering());
+    let entries = accepted.entries();
     let mut sums = components::no_sums();
-    let mut i = 0;
-    while i < n {
-        let line = records::line_in(bytes, i);
-        let fraction = records::fraction_in(bytes, i);
-        sums = components::add_to_sums(sums, line, fraction, t, k);
-        i += 1;
+    for i in 0..entries.len() {
+        sums = components::add_to_sums(sums, entries.line(i), entries.fraction(i), t, k);
     }
     sums
 }

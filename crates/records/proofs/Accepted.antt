@@ -13,7 +13,7 @@ use Rattle.records.specs.Format.{lines_in, fractions_in, contents_in}
 use Rattle.records.specs.Conditions.{least_sum, line_breaks, content_order, record_order}
 use Rattle.records.specs.Accepted.{Acceptable, AcceptedIsAcceptable}
 use Rattle.records.proofs.OrderLaws.{unmet, neither, decided_accepted}
-use Rattle.records.proofs.Entries.{count_lines, count_fractions}
+use Rattle.records.specs.Counted.{count_lines, count_fractions}
 use Rattle.records.proofs.RoundTrips.{accepted_content}
 
 ascends : (before : ℕ) (ls : List ℕ) → line_breaks before ls ≡ false → Ascending before ls

@@ -7,9 +7,10 @@ use native.Mathlib.Omega.{arith}
 use borrow.Author.Tests.{ltb-false, not-false, eqb-true, eqb-false}
 use lib.ListN.{length}
 use Rattle.records.specs.Order.{first_of}
-use Rattle.records.specs.Format.{Contents, head_length, record_length, combustion_in, metering_in, count_in}
-use Rattle.records.specs.Conditions.{permitted, mark_differs, version_differs, count_outside, head_order, start_order, writer_order}
-use Rattle.records.proofs.OrderLaws.{unmet, neither}
+use Rattle.records.specs.Format.{Contents, head_length, record_length, combustion_in, metering_in, count_in, lines_in, fractions_in}
+use Rattle.records.specs.Counted.{count_lines}
+use Rattle.records.specs.Conditions.{permitted, mark_differs, version_differs, count_outside, head_order, content_order, record_order, start_order, writer_order}
+use Rattle.records.proofs.OrderLaws.{unmet, clear_first, neither}
 
 -- where 5 does not hold
 pub record Count (n : ℕ) : Type 0 where
@@ -68,3 +69,9 @@ start k e =
       pair = not-false _ (h 4);
       entries = count _ (h 5);
     }
+
+-- an accepted record has at most 55 entries
+pub few_lines : (bs : List ℕ) → first_of (record_order bs) ≡ 0 → length (lines_in bs) ≤ 55
+few_lines bs h =
+    let e = (head bs (clear_first (head_order bs) (content_order (lines_in bs) (fractions_in bs)) tt h)).entries.few in
+    omega (arith, count_lines bs)

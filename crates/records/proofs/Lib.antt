@@ -5,8 +5,8 @@ pub mod Heads
 pub mod RoundTrips
 mod Scans
 mod Digits
-pub mod Entries
-mod ReadLaws
+pub mod EntryLaws
+mod Reading
 pub mod Accepted
 pub mod FirstBytes
 mod Cases

@@ -1,14 +1,17 @@
 -- Laws of orders of refusals: which part of an order decides, what is known where no condition holds, and what a call then gives.
-use mathlib.Core.Path.{◌≡◌, refl, sym, ◌∙◌}
+use mathlib.Core.Path.{◌≡◌, refl, sym, ap, ◌∙◌}
 use mathlib.Core.Bool.{Bool, true, false, ◌&&◌, ◌||◌, cond}
 use mathlib.Core.List.{[], ◌∷◌, ◌++◌}
 use Prim.Native.Nat.{ℕ, zero, suc}
 use native.Mathlib.Omega.{arith}
 use lib.Dec.{T, eqb}
-use Rattle.records.specs.declared.Verdict.{Verdict}
-use Rattle.records.specs.declared.Verdict.TheVariants.{Accepted, Refused}
-use Rattle.records.specs.Order.{Order, first_of, refused, accepted, decided, otherwise, mapped}
-use Rattle.records.specs.Answers.{Gives, verdict_of}
+use Rattle.std.specs.Prelude.{Result, Ok, Err}
+use Rattle.std.specs.Result.{IsErrAnd}
+use Rattle.records.specs.declared.refusal.Refusal.{Refusal}
+use Rattle.records.specs.declared.refusal.Refusal.TheVariants as refusal
+use Rattle.records.specs.Order.{Order, Outcome, first_of, refused, accepted, decided, otherwise, mapped}
+use Rattle.records.specs.Refusals.{Verdict, number, number_in, outcome}
+use Rattle.records.specs.Answers.{Gives}
 
 -- no number of the order is 0
 abbrev pub numbered : Order → Bool
@@ -63,15 +66,28 @@ pub both : (a b : Bool) → (a && b) ≡ true → (a ≡ true) × (b ≡ true)
 both true b h = (refl, h)
 both false b h = (h, cc)
 
-pub verdict_refused : (number : ℕ) → (number ≡ 0 → ⊥) → Refused number ≡ verdict_of number
-verdict_refused zero h = elim (h refl) [ ]
-verdict_refused (suc n) h = refl
+-- no refusal has the number 0
+pub some_number : (e : Refusal) → number e ≡ 0 → ⊥
+some_number e h = grind arith
+
+-- the number of a refusal that a caller passes on
+pub number_passed : {A : Type 0} (r : Result A Refusal) (e : Refusal) → IsErrAnd r (λ y. y ≡ e) → number_in r ≡ number e
+number_passed (Ok a) e h = absurd h
+number_passed (Err y) e h = ap number h
 
 module _ {A : Type 0} where
-  -- a verdict and a value that come from one number
-  pub gives : (n : ℕ) (answer other value : A) (v : Verdict) → v ≡ verdict_of n → value ≡ otherwise other (decided n answer) → Gives (decided n answer) other v value
-  gives zero answer other value v e h = rw e (record { means = rw h; stands = h })
-  gives (suc n) answer other value v e h = rw e (record { means = refl; stands = h })
+  pub refuses : (n : ℕ) (answer : A) → (n ≡ 0 → ⊥) → decided n answer ≡ refused n
+  refuses zero answer h = elim (h refl) [ ]
+  refuses (suc n) answer h = refl
+
+  -- the outcome of an answer whose number decides it
+  module _ {B : Type 0} (f : B → A) where
+    pub refused_by : (e : Refusal) {n : ℕ} (answer : A) → number e ≡ n → outcome f (Err e) ≡ decided n answer
+    refused_by e answer h = rw (← h) (sym (refuses (number e) answer (some_number e)))
+
+    pub accepted_by : (r : Result B Refusal) {n : ℕ} (answer : A) → number_in r ≡ n → ((b : B) → r ≡ Ok b → f b ≡ answer) → outcome f r ≡ decided n answer
+    accepted_by (Ok b) answer h is = rw (← h) (ap accepted (is b refl))
+    accepted_by (Err e) answer h is = refused_by e answer h
 
   -- beside a refusal
   pub beside : (n : ℕ) (answer other : A) → (n ≡ 0 → ⊥) → other ≡ otherwise other (decided n answer)
@@ -79,15 +95,14 @@ module _ {A : Type 0} where
   beside (suc n) answer other h = refl
 
   -- a refusal and what stood before it, and an acceptance and its answer
-  pub gives_refused : (n m : ℕ) (answer other : A) → m ≡ n → (m ≡ 0 → ⊥) → Gives (decided n answer) other (Refused m) other
-  gives_refused n m answer other e h = rw (← e) (gives m answer other other (Refused m) (verdict_refused m h) (beside m answer other h))
+  pub gives_refused : (v : Verdict) (e : Refusal) {n : ℕ} (answer other : A) → IsErrAnd v (λ y. y ≡ e) → number e ≡ n → Gives (decided n answer) other v other
+  gives_refused (Ok _) e answer other is h = absurd is
+  gives_refused (Err y) e answer other is h =
+      let m = ap number is ∙ h in
+      record { means = refused_by {B = Unit} (λ _. other) y answer m; stands = rw (← m) (beside (number y) answer other (some_number y)) }
 
-  pub gives_accepted : (n : ℕ) (answer other : A) → n ≡ 0 → Gives (decided n answer) other Accepted answer
-  gives_accepted n answer other e = rw e (gives 0 answer other answer Accepted refl refl)
-
-  pub refuses : (n : ℕ) (answer : A) → (n ≡ 0 → ⊥) → decided n answer ≡ refused n
-  refuses zero answer h = elim (h refl) [ ]
-  refuses (suc n) answer h = refl
+  pub gives_accepted : {n : ℕ} (answer other : A) → 0 ≡ n → Gives (decided n answer) other (Ok tt) answer
+  gives_accepted answer other h = rw (← h) (record { means = refl; stands = refl })
 
   -- what an outcome says of the number
   pub decided_accepted : (n : ℕ) (answer value : A) → decided n answer ≡ accepted value → (n ≡ 0) × (answer ≡ value)

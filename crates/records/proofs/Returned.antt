@@ -1,9 +1,11 @@
 -- What a number and lent memory return, from the answer of a call.
-use mathlib.Core.Path.{◌≡◌, sym, ap, ◌∙◌}
+use mathlib.Core.Path.{◌≡◌, refl, sym, ap, ◌∙◌}
 use Prim.Native.Nat.{ℕ}
 use Rattle.records.specs.Order.{Outcome, refused, accepted, otherwise}
-use Rattle.records.specs.declared.Verdict.{Verdict}
-use Rattle.records.specs.declared.Verdict.TheVariants.{Accepted, Refused}
+use Rattle.std.specs.Prelude.{Result, Ok, Err}
+use Rattle.records.specs.declared.refusal.Refusal.{Refusal}
+use Rattle.records.specs.Refusals.{Verdict, number, number_in}
+use Rattle.records.specs.Refusals as refusals
 use Rattle.records.specs.Answers.{Gives, meaning, number_of, Returns}
 
 module _ {A : Type 0} {outcome : Outcome A} (before : A) {number : ℕ} {after : A} where
@@ -17,13 +19,11 @@ module _ {A : Type 0} {outcome : Outcome A} (before : A) {number : ℕ} {after :
 pub alike : {A : Type 0} {o p : Outcome A} {before after : A} {number : ℕ} → Returns o before number after → o ≡ p → Returns p before number after
 alike {before = b} r e = record { number_is = r.number_is ∙ ap number_of e; after_is = r.after_is ∙ ap (otherwise b) e }
 
--- what a call gave with a verdict, for each of its cases
-module _ {A : Type 0} {outcome : Outcome A} {before after : A} {v : Verdict} (g : Gives outcome before v after) {number : ℕ} where
-  gave : number ≡ number_of (meaning v after) → Returns outcome before number after
-  gave n = record { number_is = n ∙ ap number_of g.means; after_is = g.stands }
+-- the number of what an answer means is the answer's
+pub number_is_in : {A B : Type 0} (f : A → B) (r : Result A Refusal) → number_of (refusals.outcome f r) ≡ number_in r
+number_is_in f (Ok a) = refl
+number_is_in f (Err e) = refl
 
-  pub gave_refusal : {n : ℕ} → v ≡ Refused n → number ≡ n → Returns outcome before number after
-  gave_refusal e n = gave (n ∙ ap (λ (w : Verdict). number_of (meaning w after)) (sym e))
-
-  pub gave_acceptance : v ≡ Accepted → number ≡ 0 → Returns outcome before number after
-  gave_acceptance e z = gave (z ∙ ap (λ (w : Verdict). number_of (meaning w after)) (sym e))
+-- what a call gave with a verdict
+pub gave : {A : Type 0} {outcome : Outcome A} {before after : A} {v : Verdict} → Gives outcome before v after → {number : ℕ} → number ≡ number_in v → Returns outcome before number after
+gave {after = a} {v = w} g n = record { number_is = n ∙ sym (number_is_in (λ _. a) w) ∙ ap number_of g.means; after_is = g.stands }

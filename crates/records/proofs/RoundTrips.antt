@@ -19,7 +19,8 @@ use Rattle.records.proofs.OrderLaws.{passes, clear_first, clear_second, unmet, n
 use Rattle.records.proofs.Heads.{Head, head, Start, start, room_of}
 use Rattle.records.proofs.Placing.{placed_front, placed_others, placed_length}
 use Rattle.records.proofs.Digits.{digit_0, digit_1, digit_2, digit_3, from_digits}
-use Rattle.records.proofs.Entries.{count_lines, count_fractions, length_entries}
+use Rattle.records.proofs.EntryLaws.{length_entries}
+use Rattle.records.specs.Counted.{count_lines, count_fractions}
 
 -- the first n numbers of a list
 unfoldable firsts : ℕ → List ℕ → List ℕ

@@ -1,18 +1,16 @@
 -- The answers of the calls on a record: document 01's number and values for each case, and what each call gives.
-use Rattle.std.specs.Prelude.{◌≡◌, List, ◌++◌, ℕ, zero, suc, length, drop, replicate}
-use Rattle.records.specs.declared.Verdict.{Verdict}
-use Rattle.records.specs.declared.Verdict.TheVariants.{Accepted, Refused}
+use Rattle.std.specs.Prelude.{◌≡◌, List, ◌++◌, ℕ, Result, length, drop, replicate}
 use Rattle.records.specs.declared.Analysis.{Analysis}
-use Rattle.records.specs.declared.Reading.{Reading}
+use Rattle.records.specs.declared.refusal.Refusal.{Refusal}
 use Rattle.records.specs.Order.{Outcome, refused, accepted, otherwise, mapped}
+use Rattle.records.specs.Refusals.{Verdict, outcome}
 use Rattle.records.specs.Format.{Contents}
 use Rattle.records.specs.Calls.{reading_of, writing_of}
 
 module _ {A : Type 0} where
   -- document 01's number, or the value, of each case of a verdict
   abbrev pub meaning : Verdict → A → Outcome A
-  meaning Accepted value = accepted value
-  meaning (Refused n) value = refused n
+  meaning v value = outcome (λ _. value) v
 
   -- A verdict and a value give an outcome: they mean it, and beside a refusal stands another value, which is named: the bytes
   -- that a lent buffer had before, an analysis of 0 everywhere, or a meter as it was.
@@ -31,11 +29,6 @@ module _ {A : Type 0} where
     pub number_is : number ≡ number_of outcome
     pub after_is : after ≡ otherwise before outcome
 
--- the verdict of a number: accepted where it is 0
-abbrev pub verdict_of : ℕ → Verdict
-verdict_of zero = Accepted
-verdict_of (suc n) = Refused (suc n)
-
 -- an array of 55 that begins with a list, and holds 0 past it
 abbrev pub padded : List ℕ → List ℕ
 padded l = l ++ drop (length l) (replicate 55 0)
@@ -51,13 +44,9 @@ held k =
       fractions = padded k.fractions;
     }
 
--- what stands beside a refusal: 0 everywhere
-abbrev pub blank : Analysis
-blank = record { combustion = 0; metering = 0; count = 0; lines = replicate 55 0; fractions = replicate 55 0 }
-
 -- the reader's answer
-abbrev pub Reads : List ℕ → Reading → Type 0
-Reads bs r = Gives (mapped held (reading_of bs)) blank r.verdict r.analysis
+abbrev pub Reads : List ℕ → Result Analysis Refusal → Type 0
+Reads bs r = outcome (λ (a : Analysis). a) r ≡ mapped held (reading_of bs)
 
 -- the writer's answer, and the buffer afterwards
 abbrev pub Writes : Contents → List ℕ → List ℕ → Verdict → Type 0

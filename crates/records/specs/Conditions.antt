@@ -147,6 +147,10 @@ room_order room n = (20, room_short room n) ∷ []
 abbrev pub writer_order : Contents → ℕ → Order
 writer_order k room = start_order k ++ (content_order k.lines k.fractions ++ room_order room (length k.lines))
 
+-- the first two parts
+abbrev pub given_order : Contents → Order
+given_order k = start_order k ++ content_order k.lines k.fractions
+
 -- the numbers of the content, and of a record, in the order in which they are tried
 abbrev pub content_numbers : List ℕ
 content_numbers = 7 ∷ 8 ∷ 9 ∷ 10 ∷ 11 ∷ 12 ∷ []

@@ -1,5 +1,7 @@
 pub mod Order
+pub mod Refusals
 pub mod Format
+pub mod Counted
 pub mod Conditions
 pub mod Calls
 pub mod Answers

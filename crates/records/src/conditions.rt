@@ -1,11 +1,13 @@
 // The conditions of a record, of an entry and of the writer's lists that need no search, each with document 01's number, and their orders.
-// 0 stands for none.
 ghost use Rattle.std.specs.Prelude.{◌≡◌};
 ghost use Rattle.records.specs.Order.{first_of};
+ghost use Rattle.records.specs.Refusals.{number_in};
 ghost use Rattle.records.specs.Conditions.{permitted, limit_of, count_outside, sum_outside, methane_low, above_limit, water_high};
 ghost use Rattle.records.specs.Conditions.{fields_order, limits_order, lists_order, head_order};
 
 use super::format;
+use super::record::Head;
+use super::refusal::Refusal;
 
 pub const METHANE: u8 = 1;
 
@@ -31,12 +33,10 @@ const COMMON_LIMIT: u32 = 50000;
 pub fn pair_permitted(combustion: u8, metering: u8) -> bool
     ensures { result ≡ permitted combustion metering }
 {
-    ((combustion == 15) & (metering == 15))
-        | ((combustion == 0) & (metering == 0))
-        | ((combustion == 15) & (metering == 0))
-        | ((combustion == 25) & (metering == 0))
-        | ((combustion == 20) & (metering == 20))
-        | ((combustion == 25) & (metering == 20))
+    matches!(
+        (combustion, metering),
+        (15, 15) | (0, 0) | (15, 0) | (25, 0) | (20, 20) | (25, 20)
+    )
 }
 
 // 5: n is 0 or above 55.
@@ -47,39 +47,46 @@ pub fn count_outside(n: usize) -> bool
 }
 
 // 2 to 6 in their order, from whether each holds.
-fn fields_refusal(mark: bool, version: bool, pair: bool, count: bool, length: bool) -> u8
-    ensures { result ≡ first_of (fields_order mark version pair count length) }
+fn check_fields(
+    mark: bool,
+    version: bool,
+    pair: bool,
+    count: bool,
+    length: bool,
+) -> Result<(), Refusal>
+    ensures { number_in result ≡ first_of (fields_order mark version pair count length) }
 {
     if mark {
-        return 2;
+        return Err(Refusal::MarkDiffers);
     }
     if version {
-        return 3;
+        return Err(Refusal::VersionDiffers);
     }
     if pair {
-        return 4;
+        return Err(Refusal::PairNotPermitted);
     }
     if count {
-        return 5;
+        return Err(Refusal::CountOutside);
     }
     if length {
-        return 6;
+        return Err(Refusal::LengthDiffers);
     }
-    0
+    Ok(())
 }
 
 // 1 to 6.
-pub fn head_refusal(bytes: &[u8]) -> u8
-    ensures { result ≡ first_of (head_order bytes.now) }
+pub fn check_head(bytes: &[u8]) -> Result<(), Refusal>
+    ensures { number_in result ≡ first_of (head_order bytes.now) }
 {
     if bytes.len() < format::HEAD_LENGTH {
-        return 1;
+        return Err(Refusal::TooShort);
     }
-    let n = format::count_in(bytes);
-    fields_refusal(
-        !format::has_mark(bytes),
-        format::version_in(bytes) != format::VERSION as u32,
-        !pair_permitted(format::combustion_in(bytes), format::metering_in(bytes)),
+    let head = Head { bytes };
+    let n = head.count();
+    check_fields(
+        !head.has_mark(),
+        head.version() != format::VERSION as u32,
+        !pair_permitted(head.combustion(), head.metering()),
         count_outside(n),
         bytes.len() != format::record_length(n),
     )
@@ -89,16 +96,12 @@ pub fn head_refusal(bytes: &[u8]) -> u8
 fn limit_of(line: u8) -> u32
     ensures { result ≡ limit_of line }
 {
-    if line == NITROGEN {
-        return 300000;
+    match line {
+        NITROGEN => 300000,
+        ETHANE | CARBON_DIOXIDE => 150000,
+        WATER => 200,
+        _ => COMMON_LIMIT,
     }
-    if (line == ETHANE) | (line == CARBON_DIOXIDE) {
-        return 150000;
-    }
-    if line == WATER {
-        return 200;
-    }
-    COMMON_LIMIT
 }
 
 // 9, 10 and 12: the sum outside its range, methane too low, water above its limit; in ppm.
@@ -131,36 +134,36 @@ pub fn above_limit(line: u8, fraction: u32) -> bool
 }
 
 // 9 to 12 in their order, from whether each holds.
-pub fn limits_refusal(sum: bool, methane: bool, others: bool, water: bool) -> u8
-    ensures { result ≡ first_of (limits_order sum methane others water) }
+pub fn check_limits(sum: bool, methane: bool, others: bool, water: bool) -> Result<(), Refusal>
+    ensures { number_in result ≡ first_of (limits_order sum methane others water) }
 {
     if sum {
-        return 9;
+        return Err(Refusal::SumOutside);
     }
     if methane {
-        return 10;
+        return Err(Refusal::MethaneLow);
     }
     if others {
-        return 11;
+        return Err(Refusal::AboveLimit);
     }
     if water {
-        return 12;
+        return Err(Refusal::WaterHigh);
     }
-    0
+    Ok(())
 }
 
 // 19, 4 and 5 in their order, from whether each holds.
-pub fn lists_refusal(lists: bool, pair: bool, count: bool) -> u8
-    ensures { result ≡ first_of (lists_order lists pair count) }
+pub fn check_lists(lists: bool, pair: bool, count: bool) -> Result<(), Refusal>
+    ensures { number_in result ≡ first_of (lists_order lists pair count) }
 {
     if lists {
-        return 19;
+        return Err(Refusal::ListsDiffer);
     }
     if pair {
-        return 4;
+        return Err(Refusal::PairNotPermitted);
     }
     if count {
-        return 5;
+        return Err(Refusal::CountOutside);
     }
-    0
+    Ok(())
 }

@@ -1,14 +1,18 @@
--- The refusal, or the contents in the two arrays.
+-- The contents of an accepted record in the two arrays.
 use mathlib.Core.Path.{sym, ◌∙◌}
 use native.Mathlib.Omega.{arith}
-use Rattle.records.proofs.ReadLaws.{reads_accepted, reads_refused}
+use Rattle.records.specs.Counted.{count_lines}
+use Rattle.records.proofs.Heads.{few_lines}
+use Rattle.records.proofs.Reading.{reads}
 use Rattle.records.proofs.read.Goals as goal
 
-pub returns-then-refusal-ne0 : goal.returns-then-refusal-ne0
-returns-then-refusal-ne0 c =
-    reads_refused c.args.bytes.now _ _ c.refusal-refusal.ensures (λ z. omega arith) c.refused.ensures.0 c.refused.ensures.1
+pub read_entries-requires-clause-few : goal.read_entries-requires-clause-few
+read_entries-requires-clause-few c = rw c.entries.ensures (few_lines c.in_ok-record.record.bytes.now c.in_ok-record.record.accepted)
 
 pub returns : goal.returns
 returns c =
-    rw (c.combustion_in.ensures, c.metering_in.ensures, c.count_in.ensures.0)
-    (reads_accepted c.args.bytes.now _ _ c.read_entries.ensures.0 c.read_entries.ensures.1 (sym c.refusal-refusal.ensures ∙ c.if-refusal-ne0.false))
+    let n = c.in_ok-record.ensures.number in
+    let r = c.in_ok-record.ensures.same in
+    let e = c.read_entries.ensures in
+    rw (c.combustion.ensures, c.metering.ensures, c.count.ensures.0, c.head.ensures, r)
+    (reads c.args.bytes.now _ _ (rw (c.entries.ensures, r) at e.0) (rw (c.entries.ensures, r) at e.1) n)

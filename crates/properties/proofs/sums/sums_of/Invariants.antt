@@ -1,10 +1,6 @@
-use Prim.Native.Nat.{◌-◌}
 use Rattle.components.proofs.Summing.{Four}
 use Rattle.records.specs.Format.{lines_in, fractions_in}
 use Rattle.properties.proofs.sums.sums_of.Given as goal
 
 abbrev pub invariant-loop-i : goal.invariant-loop-i
-invariant-loop-i l = Four l.t l.k (lines_in l.bytes) (fractions_in l.bytes) l.sums.superior l.sums.inferior l.sums.mass l.sums.summation l.i
-
-abbrev pub decreases-loop-i : goal.decreases-loop-i
-decreases-loop-i l = l.n - l.i
+invariant-loop-i l = Four l.t l.k (lines_in l.accepted.bytes.now) (fractions_in l.accepted.bytes.now) l.sums.superior l.sums.inferior l.sums.mass l.sums.summation l.i

@@ -9,24 +9,8 @@ use lib.ListN.{length, get_or, take, drop, set, replicate, length-append, length
 use lib.Seq.{paste-suc, get_or-drop, take_all, take-length, length-take-le}
 use Rattle.records.specs.Format.{entries_at, record_length, number4, count_in, entries_in, lines_of, fractions_of, lines_in, fractions_in, entry_bytes, entries_bytes, placed}
 use Rattle.records.specs.Answers.{padded}
+use Rattle.records.specs.Counted.{count_lines}
 use Rattle.records.proofs.Placing.{placed_none, placed_after}
-
-length_lines : (n : ℕ) (es : List ℕ) → length (lines_of n es) ≡ n
-unfolding lines_of
-length_lines zero es = refl
-length_lines (suc n) es = ap suc (length_lines n (drop 5 es))
-
-length_fractions : (n : ℕ) (es : List ℕ) → length (fractions_of n es) ≡ n
-unfolding fractions_of
-length_fractions zero es = refl
-length_fractions (suc n) es = ap suc (length_fractions n (drop 5 es))
-
-module _ (bs : List ℕ) where
-  pub count_lines : length (lines_in bs) ≡ count_in bs
-  count_lines = length_lines (count_in bs) (entries_in bs)
-
-  pub count_fractions : length (fractions_in bs) ≡ count_in bs
-  count_fractions = length_fractions (count_in bs) (entries_in bs)
 
 number_drop : (m : ℕ) (bs : List ℕ) (at : ℕ) → number4 (drop m bs) at ≡ number4 bs (m + at)
 number_drop m bs at = simp (get_or-drop, add_assoc)
@@ -52,6 +36,15 @@ module _ (bs : List ℕ) (k : ℕ) (h : k < count_in bs) where
   pub fraction_here : number4 bs (record_length k + 1) ≡ get_or (fractions_in bs) k 0
   fraction_here =
       sym (fraction_at_lem (count_in bs) (entries_in bs) k h ∙ number_drop entries_at bs (5 * k + 1) ∙ ap (λ (i : ℕ). number4 bs i) (sym (add_assoc entries_at (5 * k) 1)))
+
+-- an index of an entry, in bytes that hold the entries they count
+pub record Index (bs : List ℕ) (k : ℕ) : Type 0 where
+  pub counted : k < count_in bs
+  pub few : k ≤ 255
+  pub held : record_length k + 5 ≤ length bs
+
+pub within : (bs : List ℕ) (k : ℕ) → count_in bs ≤ 255 → record_length (count_in bs) ≤ length bs → k < length (lines_in bs) → Index bs k
+within bs k f h l = let e = count_lines bs in record { counted = omega (arith, e); few = omega (arith, e); held = omega (arith, e) }
 
 -- an array of 55 whose first k numbers are those of s, and the others 0
 abbrev pub filled : List ℕ → ℕ → List ℕ

@@ -1,0 +1,26 @@
+-- The numbers in the record's order.
+use mathlib.Core.Path.{refl, sym, ◌∙◌}
+use native.Mathlib.Omega.{arith}
+use Rattle.records.specs.Format.{lines_in, fractions_in}
+use Rattle.records.specs.Counted.{count_lines}
+use Rattle.records.specs.Conditions.{head_order, content_order}
+use Rattle.records.proofs.Heads.{head}
+use Rattle.records.proofs.OrderLaws.{number_passed, some_number, stops, passes}
+use Rattle.records.proofs.record.Record.new.Goals as goal
+
+pub check_content-requires : goal.check_content-requires
+check_content-requires c =
+    let h = head c.args.bytes.now (sym c.in_ok-check_head.ensures) in
+    omega (arith, count_lines c.args.bytes.now, h.entries.few)
+
+pub returns-in_err-check_head-clause-number : goal.returns-in_err-check_head-clause-number
+returns-in_err-check_head-clause-number c =
+    let b = c.args.bytes.now in
+    let e = c.in_err-check_head.field-0.0 in
+    number_passed _ e c.from_residual.ensures.1 ∙ stops (head_order b) (content_order (lines_in b) (fractions_in b)) c.in_err-check_head.ensures (some_number e)
+
+pub returns-in_err-check_content-clause-number : goal.returns-in_err-check_content-clause-number
+returns-in_err-check_content-clause-number c =
+    let b = c.args.bytes.now in
+    number_passed _ c.in_err-check_content.field-0.0 c.from_residual-in_err-check_content.ensures.1
+    ∙ passes (head_order b) (content_order (lines_in b) (fractions_in b)) tt c.in_ok-check_head.ensures refl c.in_err-check_content.ensures

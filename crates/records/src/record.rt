@@ -1,0 +1,135 @@
+// The bytes that a record is read from: its head, its entries, and a record that is accepted.
+ghost use Rattle.std.specs.Prelude.{◌≡◌, ◌≤◌, length};
+ghost use Rattle.records.specs.Order.{first_of};
+ghost use Rattle.records.specs.Format.{head_length, record_length, count_in};
+ghost use Rattle.records.specs.Conditions.{record_order};
+
+use super::entries::Entries;
+use super::refusal::Refusal;
+use super::{conditions, format, scan};
+
+// Bytes that hold a head.
+#[derive(Clone, Copy)]
+pub struct Head<'a> {
+    pub bytes: &'a [u8],
+    pub ghost long: { head_length ≤ length bytes.now },
+}
+
+impl Head<'_> {
+    ghost use Rattle.std.specs.Prelude.{◌≡◌, ◌≤◌};
+    ghost use Rattle.records.specs.Format.{has_mark, version_in, combustion_in, metering_in, count_in};
+
+    pub fn has_mark(&self) -> bool
+        ensures { result ≡ has_mark self.now.bytes.now }
+    {
+        (self.bytes[0] == b'G') & (self.bytes[1] == b'C') & (self.bytes[2] == b'R')
+    }
+
+    pub fn version(&self) -> u32
+        ensures { result ≡ version_in self.now.bytes.now }
+    {
+        format::number_2(self.bytes, 3)
+    }
+
+    // The pair of temperatures, in °C.
+    pub fn combustion(&self) -> u8
+        ensures { result ≡ combustion_in self.now.bytes.now }
+    {
+        self.bytes[5]
+    }
+
+    pub fn metering(&self) -> u8
+        ensures { result ≡ metering_in self.now.bytes.now }
+    {
+        self.bytes[6]
+    }
+
+    // How many entries the record has.
+    pub fn count(&self) -> usize
+        ensures { (result ≡ count_in self.now.bytes.now) × (result ≤ 255) }
+    {
+        usize::from(self.bytes[7])
+    }
+}
+
+// Bytes that hold the entries they count.
+#[derive(Clone, Copy)]
+pub struct RecordEntries<'a> {
+    pub bytes: &'a [u8],
+    pub ghost few: { count_in bytes.now ≤ 255 },
+    pub ghost whole: { record_length (count_in bytes.now) ≤ length bytes.now },
+}
+
+impl Entries for RecordEntries<'_> {
+    ghost use Rattle.std.specs.Prelude.{◌≡◌};
+    ghost use Rattle.records.specs.Format.{lines_in, fractions_in};
+    ghost use Rattle.records.specs.Counted.{same_in};
+
+    ghost lines = { λ e. lines_in e.bytes.now };
+
+    ghost fractions = { λ e. fractions_in e.bytes.now };
+
+    ghost same = { λ e. same_in e.bytes.now };
+
+    fn len(&self) -> usize {
+        Head { bytes: self.bytes }.count()
+    }
+
+    fn line(&self, k: usize) -> u8 {
+        self.bytes[format::record_length(k)]
+    }
+
+    fn fraction(&self, k: usize) -> u32 {
+        format::number_4(self.bytes, format::record_length(k) + 1)
+    }
+}
+
+// The bytes of an accepted record.
+#[derive(Clone, Copy)]
+pub struct Record<'a> {
+    pub bytes: &'a [u8],
+    pub ghost accepted: { first_of (record_order bytes.now) ≡ 0 },
+}
+
+impl<'a> Record<'a> {
+    ghost use Rattle.std.specs.Prelude.{◌≡◌, IfOk};
+    ghost use Rattle.records.specs.Order.{first_of};
+    ghost use Rattle.records.specs.Refusals.{number_in};
+    ghost use Rattle.records.specs.Format.{combustion_in, metering_in};
+    ghost use Rattle.records.specs.Conditions.{record_order};
+
+    // The record in a list of bytes, or why it is refused: the first of 1 to 12 that holds.
+    pub fn new(bytes: &'a [u8]) -> Result<Self, Refusal>
+        ensures number { number_in result ≡ first_of (record_order bytes.now) }
+        ensures same { IfOk result (λ r. r.bytes.now ≡ bytes.now) }
+    {
+        conditions::check_head(bytes)?;
+        scan::check_content(&RecordEntries { bytes })?;
+        Ok(Self { bytes })
+    }
+
+    // The pair of temperatures, in °C.
+    pub fn combustion(&self) -> u8
+        ensures { result ≡ combustion_in self.now.bytes.now }
+    {
+        self.head().combustion()
+    }
+
+    pub fn metering(&self) -> u8
+        ensures { result ≡ metering_in self.now.bytes.now }
+    {
+        self.head().metering()
+    }
+
+    pub fn head(&self) -> Head<'a>
+        ensures { result.bytes.now ≡ self.now.bytes.now }
+    {
+        Head { bytes: self.bytes }
+    }
+
+    pub fn entries(&self) -> RecordEntries<'a>
+        ensures { result.bytes.now ≡ self.now.bytes.now }
+    {
+        RecordEntries { bytes: self.bytes }
+    }
+}

@@ -1,0 +1,44 @@
+// Why a call is refused: document 01's conditions, by their numbers.
+ghost use Rattle.std.specs.Prelude.{◌≡◌};
+ghost use Rattle.records.specs.Refusals.{number};
+
+use std::fmt;
+
+// 1 to 12 are those of a record, 13 to 18 those of a meter's calls, 19 and 20 the writer's own.
+#[derive(Clone, Copy, Debug, PartialEq, Eq)]
+pub enum Refusal {
+    TooShort = 1,
+    MarkDiffers,
+    VersionDiffers,
+    PairNotPermitted,
+    CountOutside,
+    LengthDiffers,
+    LineOutOfOrder,
+    FractionZero,
+    SumOutside,
+    MethaneLow,
+    AboveLimit,
+    WaterHigh,
+    StreamAbove,
+    PairDiffers,
+    VolumeAbove,
+    NoAnalysis,
+    TotalPasses,
+    TotalZero,
+    ListsDiffer,
+    RoomShort,
+}
+
+impl Refusal {
+    pub fn number(self) -> u8
+        ensures { result ≡ number self }
+    {
+        self as u8
+    }
+}
+
+impl fmt::Display for Refusal {
+    fn fmt<W: fmt::Write>(&self, f: &mut fmt::Formatter<W>) -> fmt::Result {
+        write!(f, "refused {}", self.number())
+    }
+}
