@@ -10,8 +10,8 @@ use lib.Dec.{eqb}
 use lib.ListN.{length, get_or, drop, replicate, drop_of_length-le}
 use lib.Seq.{drop-cons}
 use Rattle.records.proofs.OrderLaws.{both}
-use Rattle.meter.specs.declared.InForce.{InForce}
-use Rattle.meter.specs.declared.InForce.TheVariants.{Nothing, Known}
+use Rattle.std.specs.Prelude.{Option, Some, None}
+use Rattle.meter.specs.declared.Gas.{Gas}
 use Rattle.meter.specs.declared.StreamTotals.{StreamTotals}
 use Rattle.meter.specs.declared.Stream.{Stream}
 use Rattle.meter.specs.State.{fresh_stream, SoundTotals, SoundGas, SoundAnalysis, SoundStream}
@@ -31,19 +31,19 @@ dropped i zero l e = drop_of_length-le l {i = i} (omega arith)
 dropped i (suc n) l e = drop-cons l i 0 (omega arith) ∙ ap (λ (r : List ℕ). get_or l i 0 ∷ r) (dropped (suc i) n l (omega arith))
 
 -- with no analysis every word is 0, and with one the first word is 1
-blank : (a : InForce) (t : StreamTotals) → SoundAnalysis a t → (get_or (analysis_words a (packed_totals t)) 0 0 ≡ 1 → ⊥) →
+blank : (a : Option Gas) (t : StreamTotals) → SoundAnalysis a t → (get_or (analysis_words a (packed_totals t)) 0 0 ≡ 1 → ⊥) →
     analysis_words a (packed_totals t) ≡ replicate row_length 0
-blank Nothing t h none = ap (analysis_words Nothing) (ap packed_totals h)
-blank (Known gas) t h none = elim (none refl) [ ]
+blank None t h none = ap (analysis_words None) (ap packed_totals h)
+blank (Some gas) t h none = elim (none refl) [ ]
 
 -- the parts of a stream with an analysis
 record Parts (row : List ℕ) : Type 0 where
   pub gas : SoundGas (gas_in row)
   pub totals : SoundTotals (totals_in row)
 
-parts : (a : InForce) (t : StreamTotals) → SoundAnalysis a t → SoundTotals t → get_or (analysis_words a (packed_totals t)) 0 0 ≡ 1 → Parts (analysis_words a (packed_totals t))
-parts Nothing t h sound one = let f : ⊥ = omega arith in elim f [ ]
-parts (Known gas) t h sound one = record { gas = record { pair = h.pair; properties = h.properties; air = h.air }; totals = sound }
+parts : (a : Option Gas) (t : StreamTotals) → SoundAnalysis a t → SoundTotals t → get_or (analysis_words a (packed_totals t)) 0 0 ≡ 1 → Parts (analysis_words a (packed_totals t))
+parts None t h sound one = let f : ⊥ = omega arith in elim f [ ]
+parts (Some gas) t h sound one = record { gas = record { pair = h.pair; properties = h.properties; air = h.air }; totals = sound }
 
 module _ (row : List ℕ) where
   pub blank_holds : row ≡ replicate row_length 0 → LentRow row
@@ -53,7 +53,7 @@ module _ (row : List ℕ) where
   analysed_holds : length row ≡ row_length → get_or row 0 0 ≡ 1 → Parts row → LentRow row
   analysed_holds long one p =
       record {
-        stream = record { analysis = Known (gas_in row); totals = totals_in row };
+        stream = record { analysis = Some (gas_in row); totals = totals_in row };
         sound = record { analysis = p.gas; totals = p.totals };
         holds = dropped 0 row_length row long ∙ ap (λ (w : ℕ). w ∷ elements 1 (row_length - 1) row) one;
       }

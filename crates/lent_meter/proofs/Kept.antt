@@ -5,8 +5,8 @@ use Prim.Native.Nat.{ℕ, zero, suc}
 use lib.ListN.{get_or}
 use Rattle.records.specs.Order.{Outcome, refused, accepted, decided, otherwise, mapped}
 use Rattle.records.specs.Answers.{number_of}
-use Rattle.meter.specs.declared.InForce.{InForce}
-use Rattle.meter.specs.declared.InForce.TheVariants.{Nothing, Known}
+use Rattle.std.specs.Prelude.{Option, Some, None}
+use Rattle.meter.specs.declared.Gas.{Gas}
 use Rattle.meter.specs.declared.StreamTotals.{StreamTotals}
 use Rattle.meter.specs.declared.Stream.{Stream}
 use Rattle.meter.specs.declared.Meter.{Meter}
@@ -48,16 +48,16 @@ leaves_packed zero m k s = subst (Leaves k (packed m) 0) (with_row m.streams k s
 leaves_packed (suc n) m k s = left_alone k (packed m) (suc n)
 
 -- the stream of a row
-abbrev analysis_in : ℕ → List ℕ → InForce
-analysis_in zero row = Nothing
-analysis_in (suc n) row = Known (gas_in row)
+abbrev analysis_in : ℕ → List ℕ → Option Gas
+analysis_in zero row = None
+analysis_in (suc n) row = Some (gas_in row)
 
 abbrev stream_in : List ℕ → Stream
 stream_in row = record { analysis = analysis_in (get_or row 0 0) row; totals = totals_in row }
 
-stream_back : (a : InForce) (t : StreamTotals) → stream_in (analysis_words a (packed_totals t)) ≡ record { analysis = a; totals = t }
-stream_back Nothing t = refl
-stream_back (Known gas) t = refl
+stream_back : (a : Option Gas) (t : StreamTotals) → stream_in (analysis_words a (packed_totals t)) ≡ record { analysis = a; totals = t }
+stream_back None t = refl
+stream_back (Some gas) t = refl
 
 streams_back : (l : List Stream) → map stream_in (map packed_stream l) ≡ l
 streams_back [] = refl

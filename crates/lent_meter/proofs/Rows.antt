@@ -15,8 +15,8 @@ use Rattle.properties.specs.declared.Properties.{Properties}
 use Rattle.properties.specs.Chain.{Six, six_of}
 use Rattle.properties.specs.Answers.{numbers, quantities}
 use Rattle.properties.specs.Quantities.{Bounded}
-use Rattle.meter.specs.declared.InForce.{InForce}
-use Rattle.meter.specs.declared.InForce.TheVariants.{Nothing, Known}
+use Rattle.std.specs.Prelude.{Option, Some, None}
+use Rattle.meter.specs.declared.Gas.{Gas}
 use Rattle.meter.specs.declared.StreamTotals.{StreamTotals}
 use Rattle.meter.specs.declared.Stream.{Stream}
 use Rattle.meter.specs.State.{most_volume, most_total, SoundTotals, SoundAnalysis, SoundStream}
@@ -31,31 +31,31 @@ words_differ row c m = not (eqb (get_or row 0 0) 0) && (not (eqb (get_or row 1 0
 
 -- the words of an analysis, for each case of it
 module _ (t : StreamTotals) where
-  first_word : (a : InForce) → eqb (get_or (analysis_words a (packed_totals t)) 0 0) 0 ≡ no_analysis a
-  first_word Nothing = refl
-  first_word (Known gas) = refl
+  first_word : (a : Option Gas) → eqb (get_or (analysis_words a (packed_totals t)) 0 0) 0 ≡ no_analysis a
+  first_word None = refl
+  first_word (Some gas) = refl
 
-  pair_words : (a : InForce) (c m : ℕ) → words_differ (analysis_words a (packed_totals t)) c m ≡ pair_differs a c m
-  pair_words Nothing c m = refl
-  pair_words (Known gas) c m = refl
+  pair_words : (a : Option Gas) (c m : ℕ) → words_differ (analysis_words a (packed_totals t)) c m ≡ pair_differs a c m
+  pair_words None c m = refl
+  pair_words (Some gas) c m = refl
 
-  six_words : (a : InForce) → SoundAnalysis a t → Bounded (six_in (analysis_words a (packed_totals t)))
-  six_words Nothing h = omega arith
-  six_words (Known gas) h = h.properties.bounded
+  six_words : (a : Option Gas) → SoundAnalysis a t → Bounded (six_in (analysis_words a (packed_totals t)))
+  six_words None h = omega arith
+  six_words (Some gas) h = h.properties.bounded
 
-  totals_words : (a : InForce) → totals_in (analysis_words a (packed_totals t)) ≡ t
-  totals_words Nothing = refl
-  totals_words (Known gas) = refl
+  totals_words : (a : Option Gas) → totals_in (analysis_words a (packed_totals t)) ≡ t
+  totals_words None = refl
+  totals_words (Some gas) = refl
 
-  put_gas : (a : InForce) (c m : ℕ) (p : Six) → with_gas_words (analysis_words a (packed_totals t)) c m p ≡ gas_words c m p (packed_totals t)
-  put_gas Nothing c m p = refl
-  put_gas (Known gas) c m p = refl
+  put_gas : (a : Option Gas) (c m : ℕ) (p : Six) → with_gas_words (analysis_words a (packed_totals t)) c m p ≡ gas_words c m p (packed_totals t)
+  put_gas None c m p = refl
+  put_gas (Some gas) c m p = refl
 
-  put_totals : (a : InForce) → no_analysis a ≡ false → (v : ℕ) {p : Properties} → numbers p ≡ six_in (analysis_words a (packed_totals t)) →
+  put_totals : (a : Option Gas) → no_analysis a ≡ false → (v : ℕ) {p : Properties} → numbers p ≡ six_in (analysis_words a (packed_totals t)) →
       with_totals_words (analysis_words a (packed_totals t)) (added t p v) ≡ packed_stream (with_volume a v (record { analysis = a; totals = t }))
-  put_totals Nothing none v e = elim (true≢false none) [ ]
-  put_totals (Known gas) none v e =
-      ap (λ (six : Six). with_totals_words (analysis_words (Known gas) (packed_totals t)) (added t (quantities six) v)) e
+  put_totals None none v e = elim (true≢false none) [ ]
+  put_totals (Some gas) none v e =
+      ap (λ (six : Six). with_totals_words (analysis_words (Some gas) (packed_totals t)) (added t (quantities six) v)) e
 
 module _ {row : List ℕ} (s : Stream) (holds : row ≡ packed_stream s) where
   pub none_is : {b : Bool} → eqb (get_or row 0 0) 0 ≡ b → no_analysis s.analysis ≡ b

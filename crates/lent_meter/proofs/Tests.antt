@@ -86,8 +86,8 @@ density_holds m p =
     }
 
 -- a gas, from the test of its density
-pub gas_holds : (gas : Gas) {b : Bool} → permitted gas.combustion gas.metering ≡ true → Proper (numbers gas.properties) →
-    Tells b (DensityByAir gas.metering (numbers gas.properties)) → Tells b (SoundGas gas)
+pub gas_holds : (gas : Gas) {b : Bool} → permitted gas.pair.combustion gas.pair.metering ≡ true → Proper (numbers gas.properties) →
+    Tells b (DensityByAir gas.pair.metering (numbers gas.properties)) → Tells b (SoundGas gas)
 gas_holds gas pair properties t =
     record { only = λ y. record { pair = pair; properties = properties; air = t.only y }; always = λ s. t.always s.air }
 

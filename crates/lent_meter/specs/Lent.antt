@@ -1,12 +1,10 @@
 -- Words that hold a meter, and what a call on them gives.
 use Rattle.std.specs.Prelude.{◌≡◌, List, [], ℕ, ◌<◌, length, get_or}
-use Rattle.records.specs.Order.{Outcome, mapped, first_of, decided}
+use Rattle.records.specs.Order.{Outcome, mapped}
 use Rattle.records.specs.Answers.{Returns}
 use Rattle.meter.specs.declared.Stream.{Stream}
 use Rattle.meter.specs.declared.Meter.{Meter}
 use Rattle.meter.specs.State.{SoundStream, Sound}
-use Rattle.meter.specs.Conditions.{stream_analysis_order, stream_metering_order}
-use Rattle.meter.specs.Calls.{analysed, metered}
 use Rattle.lent_meter.specs.Words.{packed_stream, packed}
 
 -- a row holds a sound stream, and words hold a sound meter
@@ -43,9 +41,3 @@ OnRow call before number after = (s : Stream) → SoundStream s → before ≡ p
 -- a refusal leaves a row, whatever its words are
 abbrev pub LeavesRow : List ℕ → ℕ → List ℕ → Type 0
 LeavesRow before number after = (number ≡ 0 → ⊥) → after ≡ before
-
-abbrev pub stream_analysis : Stream → List ℕ → Outcome Stream
-stream_analysis s bs = decided (first_of (stream_analysis_order bs s)) (analysed s bs)
-
-abbrev pub stream_metering : Stream → ℕ → Outcome Stream
-stream_metering s v = decided (first_of (stream_metering_order v s)) (metered s v)

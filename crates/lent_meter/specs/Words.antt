@@ -1,10 +1,8 @@
 -- A meter as the words that a caller lends: a row of 16 words for each of the 16 streams.
-use Rattle.std.specs.Prelude.{List, [], ◌∷◌, map, ℕ, ◌+◌, get_or, set}
+use Rattle.std.specs.Prelude.{List, [], ◌∷◌, map, ℕ, ◌+◌, get_or, set, Option, Some, None}
 use Rattle.properties.specs.Chain.{Six}
 use Rattle.properties.specs.Answers.{numbers, quantities}
 use Rattle.meter.specs.declared.Gas.{Gas}
-use Rattle.meter.specs.declared.InForce.{InForce}
-use Rattle.meter.specs.declared.InForce.TheVariants.{Nothing, Known}
 use Rattle.meter.specs.declared.StreamTotals.{StreamTotals}
 use Rattle.meter.specs.declared.Stream.{Stream}
 use Rattle.meter.specs.declared.Meter.{Meter}
@@ -40,9 +38,9 @@ gas_words combustion metering p more =
     ∷ more
 
 -- with no analysis 0 stands in the place of each of these
-abbrev pub analysis_words : InForce → List ℕ → List ℕ
-analysis_words Nothing more = 0 ∷ 0 ∷ 0 ∷ 0 ∷ 0 ∷ 0 ∷ 0 ∷ 0 ∷ 0 ∷ more
-analysis_words (Known gas) more = gas_words gas.combustion gas.metering (numbers gas.properties) more
+abbrev pub analysis_words : Option Gas → List ℕ → List ℕ
+analysis_words None more = 0 ∷ 0 ∷ 0 ∷ 0 ∷ 0 ∷ 0 ∷ 0 ∷ 0 ∷ 0 ∷ more
+analysis_words (Some gas) more = gas_words gas.pair.combustion gas.pair.metering (numbers gas.properties) more
 
 abbrev pub packed_stream : Stream → List ℕ
 packed_stream s = analysis_words s.analysis (packed_totals s.totals)
@@ -55,7 +53,7 @@ abbrev pub six_in : List ℕ → Six
 six_in row = record { Z = get_or row 3 0; Hs = get_or row 4 0; Hi = get_or row 5 0; rho = get_or row 6 0; d = get_or row 7 0; W = get_or row 8 0 }
 
 abbrev pub gas_in : List ℕ → Gas
-gas_in row = record { combustion = get_or row 1 0; metering = get_or row 2 0; properties = quantities (six_in row) }
+gas_in row = record { pair = record { combustion = get_or row 1 0; metering = get_or row 2 0 }; properties = quantities (six_in row) }
 
 abbrev pub totals_in : List ℕ → StreamTotals
 totals_in row =

@@ -117,7 +117,7 @@ fn product(unit: u64, volume: u64, value: u64) -> Register
         whole: high / share,
         rest: high % share * BASE,
     };
-    meter::booked(before, unit, volume % BASE, value)
+    before.booked(unit, volume % BASE, value)
 }
 
 // Whether a register holds no more than another, both with rests below one whole.

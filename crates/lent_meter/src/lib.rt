@@ -12,10 +12,10 @@ ghost use Rattle.records.specs.Answers.{Returns};
 ghost use Rattle.meter.specs.declared.Meter.{Meter};
 ghost use Rattle.meter.specs.declared.Stream.{Stream};
 ghost use Rattle.meter.specs.State.{fresh_meter};
-ghost use Rattle.meter.specs.Calls.{analysis_of, metering_of, totals_of, mean_of, mean_inferior_of};
+ghost use Rattle.meter.specs.Calls.{stream_analysis, stream_metering, analysis_of, metering_of, totals_of, mean_of, mean_inferior_of};
 ghost use Rattle.meter.specs.Answers.{mean_meaning};
 ghost use Rattle.lent_meter.specs.Words.{packed, packed_totals};
-ghost use Rattle.lent_meter.specs.Lent.{Lent, LentRow, OnWords, Leaves, OnReading, OnRow, LeavesRow, stream_analysis, stream_metering};
+ghost use Rattle.lent_meter.specs.Lent.{Lent, LentRow, OnWords, Leaves, OnReading, OnRow, LeavesRow};
 ghost use Rattle.lent_meter.specs.Check.{Tells};
 
 use meter::MeanAnswer;
@@ -104,7 +104,7 @@ fn metering_row(row: &mut Row, volume: u64) -> u8
         return 17;
     }
     let properties = words::properties_in(row);
-    words::put_totals(row, meter::added(totals, properties, volume));
+    words::put_totals(row, totals.added(properties, volume));
     0
 }
 
@@ -162,7 +162,7 @@ pub fn mean(words: &Words, stream: usize, out: &mut u64) -> u8
         return 13;
     }
     let found = words::totals_in(&words[stream]);
-    give(meter::mean_over(found.superior, found.volume), out)
+    give(found.superior.mean_over(found.volume), out)
 }
 
 // The mean inferior calorific value of what a stream has taken, in J/m³.
@@ -174,5 +174,5 @@ pub fn mean_inferior(words: &Words, stream: usize, out: &mut u64) -> u8
         return 13;
     }
     let found = words::totals_in(&words[stream]);
-    give(meter::mean_over(found.inferior, found.volume), out)
+    give(found.inferior.mean_over(found.volume), out)
 }

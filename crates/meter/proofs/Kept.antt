@@ -2,6 +2,7 @@
 use mathlib.Core.Path.{◌≡◌, refl, sym, subst, ◌∙◌}
 use mathlib.Core.Bool.{Bool, true, false, cond}
 use mathlib.Core.List.{List}
+use Rattle.std.specs.Prelude.{Option, Some, None}
 use Prim.Native.Nat.{ℕ, zero, suc, ◌+◌, ◌*◌, ◌^◌, ◌≤◌, ◌<◌}
 use native.Mathlib.Nat.{le_of_lt, lt_trans, mul-le-mul}
 use native.Mathlib.Omega.{arith}
@@ -12,6 +13,7 @@ use lib.Seq.{get_or-set_other}
 use Rattle.records.specs.declared.Verdict.{Verdict}
 use Rattle.records.specs.Order.{accepted, first_of, decided}
 use Rattle.records.specs.Format.{contents_in}
+use Rattle.records.specs.Conditions.{record_order}
 use Rattle.records.specs.Answers.{Gives, verdict_of}
 use Rattle.records.proofs.OrderLaws.{unmet, decided_accepted, gives}
 use Rattle.records.proofs.RoundTrips.{accepted_head}
@@ -19,14 +21,13 @@ use Rattle.records.proofs.Accepted.{acceptable}
 use Rattle.properties.specs.Bounds.{calorific_low, density_low}
 use Rattle.properties.specs.Quantities.{calorific_bound, density_bound}
 use Rattle.properties.proofs.Gas.{proper, density_by_air}
-use Rattle.meter.specs.declared.InForce.{InForce}
-use Rattle.meter.specs.declared.InForce.TheVariants.{Nothing, Known}
+use Rattle.meter.specs.declared.Gas.{Gas}
 use Rattle.meter.specs.declared.Register.{Register}
 use Rattle.meter.specs.declared.Stream.{Stream}
 use Rattle.meter.specs.declared.Meter.{Meter}
 use Rattle.meter.specs.State.{last_stream, most_total, SoundRegister, SoundEnergy, SoundTotals, SoundGas, SoundAnalysis, SoundStream, Sound, fresh_stream, stream_at, with_stream, per_mj, per_kg}
 use Rattle.meter.specs.Conditions.{analysis_order, metering_order, mean_order}
-use Rattle.meter.specs.Calls.{analysed, booked, with_volume, metered, after_analysis, after_metering, mean_in, mean_reading}
+use Rattle.meter.specs.Calls.{gas_of, analysed, booked, with_volume, metered, after_analysis, after_metering, mean_in, mean_reading}
 use Rattle.meter.specs.Kept.{FreshIsSound, AnalysisKeeps, MeteringKeeps, AnalysisLeavesOthers, MeteringLeavesOthers, ZeroIsAccepted, PartsFit, RegistersFit, NoMeanAboveCeiling}
 use Rattle.meter.proofs.Orders.{clear_analysis, clear_metering}
 use Rattle.meter.proofs.Registers.{sound_booked, booked_at_most, whole_below}
@@ -57,17 +58,18 @@ kept : (n : ℕ) (m : Meter) (k : ℕ) (s : Stream) (v : Verdict) (after : Meter
 kept zero m k s v after gives h new = subst Sound (sym gives.stands) (with_sound m k s h (new refl))
 kept (suc n) m k s v after gives h new = subst Sound (sym gives.stands) h
 
+-- the gas of an accepted record
+pub sound_gas : (bs : List ℕ) → first_of (record_order bs) ≡ 0 → SoundGas (gas_of bs)
+sound_gas bs clear =
+    let gas = acceptable bs clear in
+    record { pair = (accepted_head bs clear).pair; properties = proper (contents_in bs) gas; air = density_by_air (contents_in bs) gas }
+
 pub analysis_keeps : AnalysisKeeps
 analysis_keeps m k bs v after gives h =
     kept (first_of (analysis_order k bs s)) m k (analysed s bs) v after gives h
     (λ z.
     let c = clear_analysis k bs s z in
-    let old = h.each k c.stream in
-    let gas = acceptable bs c.clear in
-    record {
-      analysis = record { pair = (accepted_head bs c.clear).pair; properties = proper (contents_in bs) gas; air = density_by_air (contents_in bs) gas };
-      totals = old.totals;
-    })
+    record { analysis = sound_gas bs c.clear; totals = (h.each k c.stream).totals })
   where
     s : Stream
     s = stream_at m k
@@ -76,11 +78,11 @@ analysis_keeps m k bs v after gives h =
 sound_energy : {v : ℕ} (w : ℕ) {x : ℕ} (e : Register) → SoundEnergy v e → calorific_low ≤ x → x ≤ calorific_bound → SoundEnergy (v + w) (booked per_mj e (w * x))
 sound_energy {v} w {x} e = sound_booked per_mj (omega arith) calorific_low calorific_bound v w x e
 
-sound_metered : (s : Stream) (w : ℕ) (a : InForce) → s.analysis ≡ a → SoundStream s → s.totals.volume + w ≤ most_total → SoundStream (with_volume a w s)
-sound_metered s w Nothing is old total = old
-sound_metered s w (Known gas) is old total =
+sound_metered : (s : Stream) (w : ℕ) (a : Option Gas) → s.analysis ≡ a → SoundStream s → s.totals.volume + w ≤ most_total → SoundStream (with_volume a w s)
+sound_metered s w None is old total = old
+sound_metered s w (Some gas) is old total =
     let t = s.totals in
-    let b : SoundGas gas = subst (λ (a : InForce). SoundAnalysis a t) is old.analysis in
+    let b : SoundGas gas = subst (λ (a : Option Gas). SoundAnalysis a t) is old.analysis in
     let o = old.totals in
     let p = b.properties in
     record {

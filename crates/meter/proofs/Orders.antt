@@ -1,10 +1,9 @@
 -- What the orders of the calls say: their numbers, and what holds where no condition does.
-use mathlib.Core.Path.{◌≡◌, refl, sym, ◌∙◌}
-use mathlib.Core.Bool.{Bool, true, false}
+use mathlib.Core.Path.{◌≡◌, refl}
+use mathlib.Core.Bool.{Bool, false}
 use mathlib.Core.List.{List, [], ◌∷◌, ◌++◌}
-use Prim.Native.Nat.{ℕ, ◌+◌, ◌-◌, ◌≤◌, ◌<◌}
-use native.Mathlib.Omega.{arith}
-use borrow.Author.Tests.{ltb-true, ltb-false, lt-ltb, le-ltb}
+use Prim.Native.Nat.{ℕ, ◌+◌, ◌≤◌, ◌<◌}
+use borrow.Author.Tests.{ltb-false, lt-ltb, le-ltb}
 use lib.Dec.{ltb}
 use Rattle.records.specs.Order.{Order, first_of}
 use Rattle.records.specs.Format.{combustion_in, metering_in}
@@ -12,7 +11,7 @@ use Rattle.records.specs.Conditions.{record_order}
 use Rattle.records.proofs.OrderLaws.{unmet, clear_first, clear_second}
 use Rattle.meter.specs.declared.Stream.{Stream}
 use Rattle.meter.specs.State.{last_stream, most_volume, most_total}
-use Rattle.meter.specs.Conditions.{pair_differs, volume_above, no_analysis, volume_order, analysis_order, metering_order, AnalysisNumbers, MeteringNumbers, TotalsNumbers, MeanNumbers}
+use Rattle.meter.specs.Conditions.{pair_differs, no_analysis, analysis_order, metering_order, AnalysisNumbers, MeteringNumbers, TotalsNumbers, MeanNumbers}
 
 pub analysis_numbers : AnalysisNumbers
 analysis_numbers k bs s = refl
@@ -32,19 +31,6 @@ above {k} rest h = rw (lt-ltb last_stream k h)
 
 pub not_above : {k : ℕ} (rest : Order) → k ≤ last_stream → first_of rest ≡ first_of ((13, ltb last_stream k) ∷ rest)
 not_above {k} rest h = rw (le-ltb last_stream k h)
-
--- 17 without the sum
-passes_room : (limit total v : ℕ) → total ≤ limit → ltb (limit - total) v ≡ ltb limit (total + v)
-passes_room limit total v h = go (ltb (limit - total) v) refl
-  where
-    go : (b : Bool) → ltb (limit - total) v ≡ b → ltb (limit - total) v ≡ ltb limit (total + v)
-    go true e = e ∙ sym (lt-ltb limit (total + v) (omega (arith, ltb-true (limit - total) v e)))
-    go false e = e ∙ sym (le-ltb limit (total + v) (omega (arith, ltb-false (limit - total) v e)))
-
--- the number of a metering call on a stream up to 15
-pub metering_number_is : (k v : ℕ) (s : Stream) (none : Bool) → k ≤ last_stream → s.totals.volume ≤ most_total → none ≡ no_analysis s.analysis →
-    first_of (volume_order (volume_above v) none (ltb (most_total - s.totals.volume) v)) ≡ first_of (metering_order k v s)
-metering_number_is k v s none low total is = rw (le-ltb last_stream k low, is, passes_room most_total s.totals.volume v total)
 
 -- an accepted analysis: the record's part of the order, from whether 13 and 14 hold
 pub record_clear : (bs : List ℕ) (thirteen fourteen : Bool) → first_of ((13, thirteen) ∷ record_order bs ++ ((14, fourteen) ∷ [])) ≡ 0 → first_of (record_order bs) ≡ 0

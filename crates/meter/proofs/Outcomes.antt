@@ -1,22 +1,33 @@
--- What a call that may change the meter gives, from the number that its code found, the verdict of that number, and what it wrote.
-use mathlib.Core.Path.{◌≡◌, sym, ap, ◌∙◌}
-use Prim.Native.Nat.{ℕ}
+-- What a call on a meter gives, from what the call on the named stream gives.
+use mathlib.Core.Path.{◌≡◌, refl, ap, ◌∙◌}
+use mathlib.Core.List.{List, ◌∷◌}
+use Prim.Native.Nat.{ℕ, zero, suc, ◌≤◌}
+use lib.Dec.{ltb}
+use lib.Seq.{set-get_or}
 use Rattle.records.specs.declared.Verdict.{Verdict}
-use Rattle.records.specs.Order.{decided, otherwise}
-use Rattle.records.specs.Answers.{Gives, verdict_of}
-use Rattle.records.proofs.OrderLaws.{gives, beside}
+use Rattle.records.specs.declared.Verdict.TheVariants.{Accepted, Refused}
+use Rattle.records.specs.Order.{Order, first_of, decided, mapped}
+use Rattle.records.specs.Answers.{meaning, Gives}
 use Rattle.meter.specs.declared.Stream.{Stream}
 use Rattle.meter.specs.declared.Meter.{Meter}
-use Rattle.meter.specs.State.{with_stream}
+use Rattle.meter.specs.State.{last_stream, fresh_stream, stream_at, with_stream}
+use Rattle.meter.proofs.Orders.{not_above}
 
-module _ {A : Type 0} (answer old : A) {n number : ℕ} {v : Verdict} {after : A} (verdict : v ≡ verdict_of number) (is : number ≡ n) where
-  pub gives_refusal : (number ≡ 0 → ⊥) → after ≡ old → Gives (decided n answer) old v after
-  gives_refusal h e = gives n answer old after v (verdict ∙ ap verdict_of is) (e ∙ beside n answer old (λ z. h (is ∙ z)))
+-- a verdict beside a function of a value
+meaning_mapped : {A B : Type 0} (f : A → B) (v : Verdict) (a : A) → meaning v (f a) ≡ mapped f (meaning v a)
+meaning_mapped f Accepted a = refl
+meaning_mapped f (Refused n) a = refl
 
-  pub gives_answer : number ≡ 0 → after ≡ answer → Gives (decided n answer) old v after
-  gives_answer z e =
-      gives n answer old after v (verdict ∙ ap verdict_of is) (e ∙ sym (ap (λ (k : ℕ). otherwise old (decided k answer)) (sym is ∙ z)))
+module _ (m : Meter) (k : ℕ) (new : Stream) {v : Verdict} {s : Stream} where
+  replaced : (n : ℕ) → Gives (decided n new) (stream_at m k) v s → Gives (decided n (with_stream m k new)) m v (with_stream m k s)
+  replaced zero g =
+      record { means = meaning_mapped (with_stream m k) v s ∙ ap (mapped (with_stream m k)) g.means; stands = ap (with_stream m k) g.stands }
+  replaced (suc n) g =
+      record {
+        means = meaning_mapped (with_stream m k) v s ∙ ap (mapped (with_stream m k)) g.means;
+        stands = ap (with_stream m k) g.stands ∙ ap (λ (l : List Stream). record { streams = l }) (set-get_or m.streams k fresh_stream);
+      }
 
--- the meter after a write to the stream j, where j is the named stream and what was written is its new stream
-pub written : {after : Meter} (m : Meter) (k : ℕ) {j : ℕ} {s new : Stream} → after ≡ with_stream m j s → j ≡ k → s ≡ new → after ≡ with_stream m k new
-written m k {j} {s} {new} e at is = e ∙ ap (λ (i : ℕ). with_stream m i s) at ∙ ap (with_stream m k) is
+  pub on_stream : (rest : Order) → k ≤ last_stream → Gives (decided (first_of rest) new) (stream_at m k) v s →
+      Gives (decided (first_of ((13, ltb last_stream k) ∷ rest)) (with_stream m k new)) m v (with_stream m k s)
+  on_stream rest low g = rw (← not_above rest low) (replaced (first_of rest) g)

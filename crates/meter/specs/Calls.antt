@@ -1,28 +1,28 @@
 -- What the calls on a meter give: the number of the first condition that holds, or the answer or the meter after the call.
-use Rattle.std.specs.Prelude.{List, ℕ, ◌+◌, ◌*◌, ◌/◌, ◌%◌}
+use Rattle.std.specs.Prelude.{List, ℕ, ◌+◌, ◌*◌, ◌/◌, ◌%◌, Option, Some, None}
 use Rattle.rounding.specs.Near.{near}
 use Rattle.records.specs.Order.{Outcome, first_of, decided, otherwise}
 use Rattle.records.specs.Format.{combustion_in, metering_in, contents_in}
 use Rattle.properties.specs.declared.Properties.{Properties}
 use Rattle.properties.specs.Chain.{six_of}
 use Rattle.properties.specs.Answers.{quantities}
+use Rattle.meter.specs.declared.Energy.{Energy}
+use Rattle.meter.specs.declared.Energy.TheVariants.{Superior, Inferior}
 use Rattle.meter.specs.declared.Gas.{Gas}
-use Rattle.meter.specs.declared.InForce.{InForce}
-use Rattle.meter.specs.declared.InForce.TheVariants.{Nothing, Known}
 use Rattle.meter.specs.declared.Register.{Register}
 use Rattle.meter.specs.declared.Stream.{Stream}
 use Rattle.meter.specs.declared.Meter.{Meter}
 use Rattle.meter.specs.declared.StreamTotals.{StreamTotals}
 use Rattle.meter.specs.State.{stream_at, with_stream, amount_in, per_mj, per_kg}
-use Rattle.meter.specs.Conditions.{total_zero, zero_order, analysis_order, metering_order, totals_order, mean_order}
+use Rattle.meter.specs.Conditions.{total_zero, zero_order, stream_analysis_order, stream_metering_order, analysis_order, metering_order, totals_order, mean_order}
 
 -- an accepted record as a gas in force
 abbrev pub gas_of : List ℕ → Gas
-gas_of bs = record { combustion = combustion_in bs; metering = metering_in bs; properties = quantities (six_of (contents_in bs)) }
+gas_of bs = record { pair = record { combustion = combustion_in bs; metering = metering_in bs }; properties = quantities (six_of (contents_in bs)) }
 
 -- a stream with another gas in force, and with that of a record
 abbrev pub with_gas : Stream → Gas → Stream
-with_gas s gas = record { analysis = Known gas; totals = s.totals }
+with_gas s gas = record { analysis = Some gas; totals = s.totals }
 
 abbrev pub analysed : Stream → List ℕ → Stream
 analysed s bs = with_gas s (gas_of bs)
@@ -42,12 +42,19 @@ added t p v =
     }
 
 -- a stream with v dm³ more, by the analysis in force; with none, 16 has refused the call
-abbrev pub with_volume : InForce → ℕ → Stream → Stream
-with_volume Nothing v s = s
-with_volume (Known gas) v s = record { analysis = s.analysis; totals = added s.totals gas.properties v }
+abbrev pub with_volume : Option Gas → ℕ → Stream → Stream
+with_volume None v s = s
+with_volume (Some gas) v s = record { analysis = s.analysis; totals = added s.totals gas.properties v }
 
 abbrev pub metered : Stream → ℕ → Stream
 metered s v = with_volume s.analysis v s
+
+-- the calls on a stream, where 13 does not hold
+abbrev pub stream_analysis : Stream → List ℕ → Outcome Stream
+stream_analysis s bs = decided (first_of (stream_analysis_order bs s)) (analysed s bs)
+
+abbrev pub stream_metering : Stream → ℕ → Outcome Stream
+stream_metering s v = decided (first_of (stream_metering_order v s)) (metered s v)
 
 -- the analysis call: the record's properties come into force on the stream k
 abbrev pub analysis_of : Meter → ℕ → List ℕ → Outcome Meter
@@ -86,3 +93,13 @@ mean_of m k = mean_reading k (stream_at m k) (stream_at m k).totals.superior
 
 abbrev pub mean_inferior_of : Meter → ℕ → Outcome ℕ
 mean_inferior_of m k = mean_reading k (stream_at m k) (stream_at m k).totals.inferior
+
+-- the mean of an energy
+abbrev pub mean_for : Energy → Meter → ℕ → Outcome ℕ
+mean_for Superior = mean_of
+mean_for Inferior = mean_inferior_of
+
+-- the register of an energy
+abbrev pub register_of : Energy → StreamTotals → Register
+register_of Superior t = t.superior
+register_of Inferior t = t.inferior

@@ -1,10 +1,9 @@
 -- The conditions of refusal of the calls on a meter, with document 01's numbers, and their orders.
-use Rattle.std.specs.Prelude.{◌≡◌, Bool, true, false, not, ◌||◌, List, [], ◌∷◌, ◌++◌, ℕ, ◌+◌, eqb, ltb}
+use Rattle.std.specs.Prelude.{◌≡◌, Bool, true, false, not, ◌||◌, List, [], ◌∷◌, ◌++◌, ℕ, ◌+◌, eqb, ltb, Option, Some, None}
 use Rattle.records.specs.Order.{Order, numbers_of}
 use Rattle.records.specs.Format.{combustion_in, metering_in}
 use Rattle.records.specs.Conditions.{record_order, record_numbers}
-use Rattle.meter.specs.declared.InForce.{InForce}
-use Rattle.meter.specs.declared.InForce.TheVariants.{Nothing, Known}
+use Rattle.meter.specs.declared.Gas.{Gas}
 use Rattle.meter.specs.declared.Stream.{Stream}
 use Rattle.meter.specs.State.{last_stream, most_volume, most_total}
 
@@ -13,18 +12,18 @@ abbrev pub stream_above : ℕ → Bool
 stream_above k = ltb last_stream k
 
 -- 14: pair is not the stream's, which the first accepted analysis fixes
-abbrev pub pair_differs : InForce → ℕ → ℕ → Bool
-pair_differs Nothing c m = false
-pair_differs (Known gas) c m = not (eqb gas.combustion c) || not (eqb gas.metering m)
+abbrev pub pair_differs : Option Gas → ℕ → ℕ → Bool
+pair_differs None c m = false
+pair_differs (Some gas) c m = not (eqb gas.pair.combustion c) || not (eqb gas.pair.metering m)
 
 -- 15: volume above 10,000,000
 abbrev pub volume_above : ℕ → Bool
 volume_above v = ltb most_volume v
 
 -- 16: stream has no analysis
-abbrev pub no_analysis : InForce → Bool
-no_analysis Nothing = true
-no_analysis (Known gas) = false
+abbrev pub no_analysis : Option Gas → Bool
+no_analysis None = true
+no_analysis (Some gas) = false
 
 -- 17: volume total would pass 999,999,999,999
 abbrev pub total_passes : ℕ → ℕ → Bool

@@ -1,3 +1,4 @@
+pub mod StreamState
 pub mod State
 pub mod Conditions
 pub mod Calls

@@ -1,12 +1,10 @@
 -- The meter of document 01 as made, and what holds of every meter.
-use Rattle.std.specs.Prelude.{◌≡◌, true, ℕ, ◌+◌, ◌*◌, ◌≤◌, ◌<◌, length, get_or, set, replicate}
+use Rattle.std.specs.Prelude.{◌≡◌, true, ℕ, ◌+◌, ◌*◌, ◌≤◌, ◌<◌, length, get_or, set, replicate, Option, Some, None}
 use Rattle.records.specs.Conditions.{permitted}
 use Rattle.properties.specs.Bounds.{calorific_low, density_low, Proper, DensityByAir}
 use Rattle.properties.specs.Quantities.{calorific_bound, density_bound}
 use Rattle.properties.specs.Answers.{numbers}
 use Rattle.meter.specs.declared.Gas.{Gas}
-use Rattle.meter.specs.declared.InForce.{InForce}
-use Rattle.meter.specs.declared.InForce.TheVariants.{Nothing, Known}
 use Rattle.meter.specs.declared.Register.{Register}
 use Rattle.meter.specs.declared.StreamTotals.{StreamTotals}
 use Rattle.meter.specs.declared.Stream.{Stream}
@@ -41,7 +39,7 @@ fresh_totals = record { volume = 0; superior = nothing_booked; inferior = nothin
 
 -- no analysis
 abbrev pub fresh_stream : Stream
-fresh_stream = record { analysis = Nothing; totals = fresh_totals }
+fresh_stream = record { analysis = None; totals = fresh_totals }
 
 -- 16 streams, 0 to 15
 abbrev pub fresh_meter : Meter
@@ -85,14 +83,14 @@ pub record SoundTotals (t : StreamTotals) : Type 0 where
 -- what holds of every gas in force: the pair is permitted, and the properties are those of an accepted record as far as `Proper` and
 -- `DensityByAir` tell
 pub record SoundGas (gas : Gas) : Type 0 where
-  pub pair : permitted gas.combustion gas.metering ≡ true
+  pub pair : permitted gas.pair.combustion gas.pair.metering ≡ true
   pub properties : Proper (numbers gas.properties)
-  pub air : DensityByAir gas.metering (numbers gas.properties)
+  pub air : DensityByAir gas.pair.metering (numbers gas.properties)
 
 -- what holds of a stream's totals beside its analysis: with none, they are as made
-abbrev pub SoundAnalysis : InForce → StreamTotals → Type 0
-SoundAnalysis Nothing t = t ≡ fresh_totals
-SoundAnalysis (Known gas) t = SoundGas gas
+abbrev pub SoundAnalysis : Option Gas → StreamTotals → Type 0
+SoundAnalysis None t = t ≡ fresh_totals
+SoundAnalysis (Some gas) t = SoundGas gas
 
 -- what holds of every stream
 pub record SoundStream (s : Stream) : Type 0 where

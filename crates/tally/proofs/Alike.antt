@@ -18,8 +18,8 @@ use Rattle.properties.specs.Unrounded as unrounded
 use Rattle.properties.specs.Answers.{numbers}
 use Rattle.properties.proofs.Gas.{distances}
 use Rattle.properties.proofs.Outcomes.{accepted_reading, clear_of_accepted}
-use Rattle.meter.specs.declared.InForce.{InForce}
-use Rattle.meter.specs.declared.InForce.TheVariants.{Known}
+use Rattle.std.specs.Prelude.{Option as InForce, Some}
+use Rattle.meter.specs.declared.Gas.{Gas}
 use Rattle.meter.specs.declared.Register.{Register}
 use Rattle.meter.specs.declared.Stream.{Stream}
 use Rattle.meter.specs.State.{amount_in}
@@ -71,11 +71,11 @@ parts_alike : (u v : ℕ) (e : Register) (a : Account) → AlikeRegister u v e a
 parts_alike u v e a h = cc (digits_div e.whole h.rest, digits_mod e.whole h.rest, h.amount)
 
 -- the same conditions
-same_pair : {i : InForce} {o : Option (List ℕ)} → SameInForce i o → (c m : ℕ) → pair_differs i c m ≡ other_pair (pair_of o) c m
+same_pair : {i : InForce Gas} {o : Option (List ℕ)} → SameInForce i o → (c m : ℕ) → pair_differs i c m ≡ other_pair (pair_of o) c m
 same_pair nothing c m = refl
 same_pair (known bs gas ec em e) c m = rw (ec, em)
 
-same_none : {i : InForce} {o : Option (List ℕ)} → SameInForce i o → no_analysis i ≡ no_record o
+same_none : {i : InForce Gas} {o : Option (List ℕ)} → SameInForce i o → no_analysis i ≡ no_record o
 same_none nothing = refl
 same_none (known bs gas ec em e) = refl
 
@@ -108,7 +108,7 @@ module _ (s : Stream) (l : StreamTally) (h : Alike s l) (k : ℕ) where
           AlikeRegister per_mj (l.volume + v) (booked per_mj (register_of e s.totals) (v * n)) (grown v f x (account_of e l))
       grows e x is near = register_grows per_mj l.volume v x (register_of e s.totals) (account_of e l) (omega arith) is near (h.energy e)
 
-      go : {i : InForce} {o : Option (List ℕ)} → s.analysis ≡ i → SameInForce i o → Alike (with_volume i v s) (metered_by o v l)
+      go : {i : InForce Gas} {o : Option (List ℕ)} → s.analysis ≡ i → SameInForce i o → Alike (with_volume i v s) (metered_by o v l)
       go ei nothing = elim (true≢false (sym (ap no_analysis ei) ∙ (clear_metering k v s z).analysed)) [ ]
       go ei (known bs gas ec em e) =
           let found = clear_of_accepted six_of bs (numbers gas.properties) e in
@@ -118,7 +118,7 @@ module _ (s : Stream) (l : StreamTally) (h : Alike s l) (k : ℕ) where
             pair = h.pair;
             volume = ap (λ (n : ℕ). n + v) h.volume;
             energy =
-                for_both (AlikeEnergy (with_volume (Known gas) v s) (metered_by (some bs) v l))
+                for_both (AlikeEnergy (with_volume (Some gas) v s) (metered_by (some bs) v l))
                 (grows superior (unrounded.Hs (contents_in bs)) (sym (ap (λ (p : Six). p.Hs) found.1)) near.Hs)
                 (grows inferior (unrounded.Hi (contents_in bs)) (sym (ap (λ (p : Six). p.Hi) found.1)) near.Hi);
             mass =

@@ -1,12 +1,11 @@
 -- The functions whose contracts `Run` and `LentRun` read are proved (`_proved`: their theorems, by name), and what these read of a
 -- contract is what a caller knows by it (`_read`). `lent_` stands before the functions of crates/loonstool on the lent meter.
 use borrow.Fn.Picked.{KnownAs}
-use Rattle.meter.proofs.fresh as fresh
-use Rattle.meter.proofs.analysis as analysis
-use Rattle.meter.proofs.metering as metering
-use Rattle.meter.proofs.totals as totals
-use Rattle.meter.proofs.mean as mean
-use Rattle.meter.proofs.mean_inferior as mean-inferior
+use Rattle.meter.proofs.Meter.new as fresh
+use Rattle.meter.proofs.Meter.analysis as analysis
+use Rattle.meter.proofs.Meter.metering as metering
+use Rattle.meter.proofs.Meter.totals as totals
+use Rattle.meter.proofs.Meter.mean as mean
 use Rattle.loonstool.proofs.loonstool_meter_fresh as lent-fresh
 use Rattle.loonstool.proofs.loonstool_meter_check as lent-check
 use Rattle.loonstool.proofs.loonstool_meter_analysis as lent-analysis
@@ -24,32 +23,26 @@ fresh_read = fresh.Reads.known
 pub analysis_proved : {M : Type 1} → analysis.Statement.statement M
 analysis_proved = analysis.Met.met
 
-pub analysis_read : KnownAs 1 analysis.Kinds.ps analysis.Kinds.r analysis.Reads.Ghost analysis.Reads.requires analysis.Reads.ensures analysis.Reads.Asked analysis.Reads.Learnt
+pub analysis_read : KnownAs 2 analysis.Kinds.ps analysis.Kinds.r analysis.Reads.Ghost analysis.Reads.requires analysis.Reads.ensures analysis.Reads.Asked analysis.Reads.Learnt
 analysis_read = analysis.Reads.known
 
 pub metering_proved : {M : Type 1} → metering.Statement.statement M
 metering_proved = metering.Met.met
 
-pub metering_read : KnownAs 0 metering.Kinds.ps metering.Kinds.r metering.Reads.Ghost metering.Reads.requires metering.Reads.ensures metering.Reads.Asked metering.Reads.Learnt
+pub metering_read : KnownAs 1 metering.Kinds.ps metering.Kinds.r metering.Reads.Ghost metering.Reads.requires metering.Reads.ensures metering.Reads.Asked metering.Reads.Learnt
 metering_read = metering.Reads.known
 
 pub totals_proved : {M : Type 1} → totals.Statement.statement M
 totals_proved = totals.Met.met
 
-pub totals_read : KnownAs 0 totals.Kinds.ps totals.Kinds.r totals.Reads.Ghost totals.Reads.requires totals.Reads.ensures totals.Reads.Asked totals.Reads.Learnt
+pub totals_read : KnownAs 1 totals.Kinds.ps totals.Kinds.r totals.Reads.Ghost totals.Reads.requires totals.Reads.ensures totals.Reads.Asked totals.Reads.Learnt
 totals_read = totals.Reads.known
 
 pub mean_proved : {M : Type 1} → mean.Statement.statement M
 mean_proved = mean.Met.met
 
-pub mean_read : KnownAs 0 mean.Kinds.ps mean.Kinds.r mean.Reads.Ghost mean.Reads.requires mean.Reads.ensures mean.Reads.Asked mean.Reads.Learnt
+pub mean_read : KnownAs 1 mean.Kinds.ps mean.Kinds.r mean.Reads.Ghost mean.Reads.requires mean.Reads.ensures mean.Reads.Asked mean.Reads.Learnt
 mean_read = mean.Reads.known
-
-pub mean_inferior_proved : {M : Type 1} → mean-inferior.Statement.statement M
-mean_inferior_proved = mean-inferior.Met.met
-
-pub mean_inferior_read : KnownAs 0 mean-inferior.Kinds.ps mean-inferior.Kinds.r mean-inferior.Reads.Ghost mean-inferior.Reads.requires mean-inferior.Reads.ensures mean-inferior.Reads.Asked mean-inferior.Reads.Learnt
-mean_inferior_read = mean-inferior.Reads.known
 
 pub lent_fresh_proved : {M : Type 1} → lent-fresh.Statement.statement M
 lent_fresh_proved = lent-fresh.Met.met

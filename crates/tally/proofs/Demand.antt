@@ -1,11 +1,12 @@
 -- Demand 3, for every list of calls from a fresh meter.
-use mathlib.Core.Path.{◌≡◌, refl, sym, ap, ◌∙◌}
+use mathlib.Core.Path.{◌≡◌, refl, sym, ap, subst, ◌∙◌}
 use mathlib.Core.List.{List, ◌∷◌}
 use Prim.Native.Nat.{ℕ, ◌+◌, ◌*◌, ◌≤◌, ◌<◌}
 use native.Mathlib.Nat.{mul-le-mul_right, mul-pos}
 use native.Mathlib.Omega.{arith}
 use borrow.Author.Tests.{le-ltb, ne_eqb, eq-eqb}
 use lib.ListN.{drop}
+use denote.Ref.{Bor}
 use Rattle.rounding.specs.Near.{near}
 use Rattle.rounding.specs.Fraction.{Fraction, whole, divided_by, Within}
 use Rattle.rounding.proofs.NearLaws.{near_half}
@@ -70,14 +71,14 @@ fresh_linked =
 -- a list of calls
 run : {m : Meter} {cs : List Call} {rs : List Answer} {m₂ : Meter} (t : Tally) → Linked m t → Run m cs rs m₂ → Next t m cs rs m₂
 run t h (ended m) = record { answers = refl; linked = h; leaves = no_call m }
-run t h (after m m₁ m₂ cs₁ cs rs₁ rs s more) = let n = step m t h s in both n (run (tallied t cs₁) n.linked more)
+run t h (after m m₁ m₂ cs₁ cs rs₁ rs s more) = let n = step t h s in both n (run (tallied t cs₁) n.linked more)
 
 -- what each step leaves
 each_leaves : (m : Meter) (cs : List Call) (rs : List Answer) (m₂ : Meter) (t : Tally) → Linked m t → (ran : Run m cs rs m₂) → EachLeaves m cs rs m₂ ran
 unfolding EachLeaves
 each_leaves m cs rs m₂ t h (ended m₀) = tt
 each_leaves m cs rs m₂ t h (after m₀ m₁ m₃ cs₁ cs₂ rs₁ rs₂ s more) =
-    let n = step m₀ t h s in (n.leaves, each_leaves m₁ cs₂ rs₂ m₃ (tallied t cs₁) n.linked more)
+    let n = step t h s in (n.leaves, each_leaves m₁ cs₂ rs₂ m₃ (tallied t cs₁) n.linked more)
 
 -- an accepted analysis of the list
 analysis_shown : (bs : List ℕ) (k : ℕ) (s : StreamTally) → first_of (order_of k (analysis bs) s) ≡ 0 → AnalysisShown bs
@@ -100,6 +101,7 @@ demand3 m₀ m cs rs made ran =
     let start : Linked m₀ fresh_tally = rw (made tt) fresh_linked in
     let r = run fresh_tally start ran in
     let t = tallied fresh_tally cs in
+    let linked_at = λ (w : Bor Meter) (at : w.now ≡ m). subst (λ (x : Meter). Linked x t) (sym at) r.linked in
     record {
       answers = r.answers;
       each = λ k b.
@@ -109,9 +111,9 @@ demand3 m₀ m cs rs made ran =
             volume =
                 omega
                 (arith, volume_sum k b fresh_tally cs refl, ap (λ (x : StreamTally). x.volume) (at_made fresh_stream_tally 16 k), ap (accepted_volume k cs) r.answers);
-            totals = λ x got. first (step m t r.linked (by_totals k x got)).answers ∙ rw (le-ltb last_stream k b);
-            mean = λ e x got p. first (step m t r.linked (by_mean e k x got)).answers ∙ rw (le-ltb last_stream k b, ne_eqb l.volume 0 (omega arith));
-            no_mean = λ e x got p. first (step m t r.linked (by_mean e k x got)).answers ∙ rw (le-ltb last_stream k b, eq-eqb l.volume 0 p);
+            totals = λ κs w x at got. first (step t (linked_at w at) (by_totals κs w k x got)).answers ∙ rw (le-ltb last_stream k b);
+            mean = λ e κs w x at got p. first (step t (linked_at w at) (by_mean e κs w k x got)).answers ∙ rw (le-ltb last_stream k b, ne_eqb l.volume 0 (omega arith));
+            no_mean = λ e κs w x at got p. first (step t (linked_at w at) (by_mean e κs w k x got)).answers ∙ rw (le-ltb last_stream k b, eq-eqb l.volume 0 p);
             energy_within = λ e. (a.energy e).within;
             mean_within = λ e. mean_within m k l e r.linked.sound b a;
             mass_within = a.mass.within;

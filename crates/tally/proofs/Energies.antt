@@ -15,7 +15,7 @@ use Rattle.meter.specs.Answers.{mean_meaning}
 use Rattle.meter.proofs.Kept.{no_mean_above_ceiling}
 use Rattle.lent_meter.specs.Lent.{Lent, OnReading}
 use Rattle.tally.specs.Tally.{Energy, superior, inferior}
-use Rattle.tally.specs.Run.{MeanAsks, MeanReturns}
+use Rattle.tally.specs.Run.{MeanReturns}
 use Rattle.tally.specs.LentRun.{Words, MeanAsked, MeanGave}
 
 abbrev pub register_of : Energy → StreamTotals → Register
@@ -31,19 +31,16 @@ pub for_both : (P : Energy → Type 0) → P superior → P inferior → (e : En
 for_both P s i superior = s
 for_both P s i inferior = i
 
-module _ (m : Meter) (k : ℕ) where
-  pub mean_asked : (e : Energy) → Sound m → MeanAsks e m k
-  mean_asked superior h = h
-  mean_asked inferior h = h
+module _ (κs : Lfts 1) (w : Bor Meter) (k : ℕ) where
+  pub mean_found : (e : Energy) (r : MeanAnswer) → MeanReturns e κs w k r → mean_meaning r ≡ mean_for e k w.now
+  mean_found superior r got = got tt
+  mean_found inferior r got = got tt
 
-  pub mean_found : (e : Energy) (r : MeanAnswer) → MeanReturns e m k r → Sound m → mean_meaning r ≡ mean_for e k m
-  mean_found superior r got h = got h
-  mean_found inferior r got h = got h
-
-  pub mean_returned : (e : Energy) (r : MeanAnswer) → mean_meaning r ≡ mean_for e k m → MeanReturns e m k r
+  pub mean_returned : (e : Energy) (r : MeanAnswer) → mean_meaning r ≡ mean_for e k w.now → MeanReturns e κs w k r
   mean_returned superior r is = λ p. is
   mean_returned inferior r is = λ p. is
 
+module _ (m : Meter) (k : ℕ) where
   pub mean_at_most : (e : Energy) (h : ℕ) → Sound m → mean_for e k m ≡ accepted h → h ≤ calorific_bound
   mean_at_most superior h = no_mean_above_ceiling.superior m k h
   mean_at_most inferior h = no_mean_above_ceiling.inferior m k h

@@ -7,7 +7,6 @@ use Rattle.records.specs.Order.{Outcome, refused, accepted, first_of, decided, o
 use Rattle.records.specs.Answers.{Gives, verdict_of}
 use Rattle.records.proofs.OrderLaws.{gives}
 use Rattle.meter.specs.declared.Meter.{Meter}
-use Rattle.meter.specs.declared.Changed.{Changed}
 use Rattle.meter.specs.declared.StreamTotals.{StreamTotals}
 use Rattle.meter.specs.declared.TotalsAnswer.{TotalsAnswer}
 use Rattle.meter.specs.declared.TotalsAnswer.TheVariants as totals-answer
@@ -51,12 +50,9 @@ unfolding mean_with
 mean_means (refused n) = refl
 mean_means (accepted x) = refl
 
--- what a call with the number n returns, where it would leave the meter new
-abbrev pub changed : ℕ → Meter → Meter → Changed
-changed n m new = record { meter = otherwise m (decided n new); verdict = verdict_of n }
-
-pub changed_gives : (n : ℕ) (m new : Meter) → Gives (decided n new) m (changed n m new).verdict (changed n m new).meter
-changed_gives n m new = gives n new m (otherwise m (decided n new)) (verdict_of n) refl refl
+-- what a call with the number n gives, where it would leave the meter new
+pub call_gives : (n : ℕ) (m new : Meter) → Gives (decided n new) m (verdict_of n) (otherwise m (decided n new))
+call_gives n m new = gives n new m (otherwise m (decided n new)) (verdict_of n) refl refl
 
 record HasStep (m : Meter) (c : Call) : Type 0 where
   pub answer : Answer
@@ -67,13 +63,14 @@ has_step : (m : Meter) (k : ℕ) (ask : Ask) → HasStep m (on k ask)
 has_step m k (analysis bs) =
     let n = first_of (analysis_order k bs (stream_at m k)) in
     let new = with_stream m k (analysed (stream_at m k) bs) in
-    record { answer = _; meter = _; step = by_analysis ([], tt) k (to bs) (changed n m new) (λ p. changed_gives n m new) }
+    record { answer = _; meter = _; step = by_analysis ([], ([], tt)) (to_mut m) k (to bs) (verdict_of n) (to_mut (otherwise m (decided n new))) (λ p. call_gives n m new) }
 has_step m k (metering v) =
     let n = first_of (metering_order k v (stream_at m k)) in
     let new = with_stream m k (metered (stream_at m k) v) in
-    record { answer = _; meter = _; step = by_metering k v (changed n m new) (λ p. changed_gives n m new) }
-has_step m k totals = record { answer = _; meter = _; step = by_totals k (totals_with (totals_of m k)) (λ p. totals_means (totals_of m k)) }
-has_step m k (mean e) = record { answer = _; meter = _; step = by_mean e k (mean_with (mean_for e k m)) (mean_returned m k e _ (mean_means (mean_for e k m))) }
+    record { answer = _; meter = _; step = by_metering ([], tt) (to_mut m) k v (verdict_of n) (to_mut (otherwise m (decided n new))) (λ p. call_gives n m new) }
+has_step m k totals = record { answer = _; meter = _; step = by_totals ([], tt) (to m) k (totals_with (totals_of m k)) (λ p. totals_means (totals_of m k)) }
+has_step m k (mean e) =
+    record { answer = _; meter = _; step = by_mean e ([], tt) (to m) k (mean_with (mean_for e k m)) (mean_returned ([], tt) (to m) k e _ (mean_means (mean_for e k m))) }
 
 pub every_list_has_run : EveryListHasRun
 every_list_has_run m [] = record { answers = []; meter = m; run = ended m }

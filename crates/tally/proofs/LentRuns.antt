@@ -2,7 +2,7 @@
 use mathlib.Core.Path.{◌≡◌, refl, sym, ap, subst, ◌∙◌}
 use mathlib.Core.List.{List, [], ◌∷◌}
 use Prim.Native.Nat.{ℕ, zero, suc}
-use Rattle.records.specs.Order.{first_of, decided, mapped}
+use Rattle.records.specs.Order.{first_of, decided, otherwise, mapped}
 use Rattle.records.specs.Answers.{verdict_of, Returns}
 use Rattle.meter.specs.declared.Meter.{Meter}
 use Rattle.meter.specs.State.{Sound, fresh_meter, stream_at, with_stream}
@@ -18,7 +18,7 @@ use Rattle.tally.specs.LentRun as lent
 use Rattle.tally.specs.LentRun.{Words, totals_put, LentStep, LentRun, LentRequired, CheckDecides, LentClaim}
 use Rattle.tally.proofs.Energies.{register_of, mean_for, mean_returned, lent_mean_asked, lent_mean_found}
 use Rattle.tally.proofs.Demand.{demand3}
-use Rattle.tally.proofs.Exists.{to_mut, totals_with, totals_means, mean_with, mean_means, changed, changed_gives}
+use Rattle.tally.proofs.Exists.{to, to_mut, totals_with, totals_means, mean_with, mean_means, call_gives}
 
 -- words hold a sound meter
 record Holds (w : Words) (m : Meter) : Type 0 where
@@ -55,25 +55,25 @@ stepped m h (lent.by_analysis κs w k b n w₁ gave) =
     let words = (gave tt).0 in
     answered (change_answer_lem i packed new (words m h.sound h.same))
     (record { sound = sound_after_analysis k b.now m h.sound; same = held_after (λ (x : Meter). analysis_of x k b.now) m words h.sound h.same })
-    (by_analysis ([], tt) k b (changed i m new) (λ p. changed_gives i m new))
+    (by_analysis ([], ([], tt)) (to_mut m) k b (verdict_of i) (to_mut (otherwise m (decided i new))) (λ p. call_gives i m new))
 stepped m h (lent.by_metering κs w k v n w₁ gave) =
     let i = first_of (metering_order k v (stream_at m k)) in
     let new = with_stream m k (metered (stream_at m k) v) in
     let words = (gave (lent_by h)).0 in
     answered (change_answer_lem i packed new (words m h.sound h.same))
     (record { sound = sound_after_metering k v m h.sound; same = held_after (λ (x : Meter). metering_of x k v) m words h.sound h.same })
-    (by_metering k v (changed i m new) (λ p. changed_gives i m new))
+    (by_metering ([], tt) (to_mut m) k v (verdict_of i) (to_mut (otherwise m (decided i new))) (λ p. call_gives i m new))
 stepped m h (lent.by_totals κs w k t n t₁ gave) =
     answered
     (ap (mapped totals_given) (totals_means (totals_of m k))
     ∙ read_answer packed_totals totals_put totals_given (λ x. refl) (first_of (totals_order k)) (stream_at m k).totals (gave tt m h.sound h.same))
-    h (by_totals k (totals_with (totals_of m k)) (λ p. totals_means (totals_of m k)))
+    h (by_totals ([], tt) (to m) k (totals_with (totals_of m k)) (λ p. totals_means (totals_of m k)))
 stepped m h (lent.by_mean e κs w k x n x₁ gave) =
     let s = stream_at m k in
     answered
     (ap (mapped mean_is) (mean_means (mean_for e k m))
     ∙ read_answer (λ (x : ℕ). x) mean_is mean_is (λ x. refl) (first_of (mean_order k s)) (mean_in (register_of e s.totals) s.totals.volume) (lent_mean_found κs w k x e n x₁ gave (lent_by h) m h.sound h.same))
-    h (by_mean e k (mean_with (mean_for e k m)) (mean_returned m k e _ (mean_means (mean_for e k m))))
+    h (by_mean e ([], tt) (to m) k (mean_with (mean_for e k m)) (mean_returned ([], tt) (to m) k e _ (mean_means (mean_for e k m))))
 
 -- the meter after a list on words, and its run
 record Ran (m : Meter) (cs : List Call) (rs : List Answer) (w : Words) : Type 0 where

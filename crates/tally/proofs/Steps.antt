@@ -24,7 +24,7 @@ use Rattle.meter.proofs.Kept.{others_stay, analysis_keeps, metering_keeps}
 use Rattle.tally.specs.Tally.{last_stream, Ask, analysis, metering, totals, mean, Call, on, Given, done, mean_is, Answer, StreamTally, fresh_stream_tally, Tally, tally_at, with_tally, left_by, given_by, number_for, answer_to, tally_after, answers_to, tallied}
 use Rattle.tally.specs.Run.{change_answer, totals_given, Step, by_analysis, by_metering, by_totals, by_mean}
 use Rattle.tally.specs.Demand.{is_reading, Required, Leaves, StepLeaves, no_call, next_call}
-use Rattle.tally.proofs.Energies.{register_of, mean_asked, mean_found}
+use Rattle.tally.proofs.Energies.{register_of, mean_found}
 use Rattle.tally.proofs.Alike.{Alike, analysis_order_lem, metering_order_lem, mean_order_lem, analysis_alike, metering_alike, totals_alike, mean_alike}
 
 -- a meter beside a tally
@@ -35,7 +35,7 @@ pub record Linked (m : Meter) (t : Tally) : Type 0 where
 
 -- what holds of every meter is all that the contracts require
 pub required : (m : Meter) → Sound m → Required m
-required m h = record { analysis = λ κs k b. tt; metering = λ k v. h; totals = λ k. tt; mean = λ e k. mean_asked m k e h }
+required m h = record { analysis = λ κs w k b e. tt; metering = λ κs w k v e. tt; totals = λ κs w k e. tt; mean = λ e κs w k is. tt }
 
 -- calls with their answers, from the meter m beside the tally t to the meter m₁
 pub record Next (t : Tally) (m : Meter) (cs : List Call) (rs : List Answer) (m₁ : Meter) : Type 0 where
@@ -133,14 +133,15 @@ module _ (m : Meter) (t : Tally) (h : Linked m t) where
       (λ z. ((clear_metering k w s z).stream, metering_alike s l (h.each k) k w z)) refl refl v after gives (metering_keeps m k w v after gives h.sound)
 
 -- one step
-module _ (m : Meter) (t : Tally) (h : Linked m t) where
-  pub step : {cs : List Call} {rs : List Answer} {m₁ : Meter} → Step m cs rs m₁ → Next t m cs rs m₁
-  step (by_analysis κs k b r got) = analysis_next m t h k b.now r.verdict r.meter (got tt)
-  step (by_metering k v r got) = metering_next m t h k v r.verdict r.meter (got h.sound)
-  step (by_totals k r got) =
-      reads m t h totals_given k totals (totals_meaning r) (first_of (totals_order k)) (stream_at m k).totals refl (got tt) (totals_alike (stream_at m k) (tally_at t k) (h.each k)) refl
-  step (by_mean e k r got) =
-      let s = stream_at m k in
-      let l = tally_at t k in
-      reads m t h mean_is k (mean e) (mean_meaning r) (first_of (mean_order k s)) (mean_in (register_of e s.totals) s.totals.volume) (ap first_of (mean_order_lem s l (h.each k) k e)) (mean_found m k e r got h.sound)
-      (mean_alike s l (h.each k) e) refl
+pub step : {m : Meter} {cs : List Call} {rs : List Answer} {m₁ : Meter} (t : Tally) → Linked m t → Step m cs rs m₁ → Next t m cs rs m₁
+step t h (by_analysis κs w k b r w₁ got) = analysis_next w.now t h k b.now r w₁.now (got tt)
+step t h (by_metering κs w k v r w₁ got) = metering_next w.now t h k v r w₁.now (got tt)
+step t h (by_totals κs w k r got) =
+    let m = w.now in
+    reads m t h totals_given k totals (totals_meaning r) (first_of (totals_order k)) (stream_at m k).totals refl (got tt) (totals_alike (stream_at m k) (tally_at t k) (h.each k)) refl
+step t h (by_mean e κs w k r got) =
+    let m = w.now in
+    let s = stream_at m k in
+    let l = tally_at t k in
+    reads m t h mean_is k (mean e) (mean_meaning r) (first_of (mean_order k s)) (mean_in (register_of e s.totals) s.totals.volume) (ap first_of (mean_order_lem s l (h.each k) k e)) (mean_found κs w k e r got)
+    (mean_alike s l (h.each k) e) refl

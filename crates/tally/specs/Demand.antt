@@ -1,8 +1,9 @@
 -- Demand 3: one claim about a whole list of calls from a fresh meter, their answers, and the meter after them.
 use Rattle.std.specs.Prelude.{◌≡◌, List, [], ◌∷◌, Bool, true, false, cond, ℕ, ◌+◌, ◌*◌, ◌≤◌, ◌<◌, eqb}
 use Rattle.std.proofs.Math.Option.{Option, none, some}
+use Rattle.std.specs.Prelude.{Option as InForce, Some, None}
 use contract.Lifetimes.{Lfts}
-use Rattle.std.specs.Borrow.{Bor}
+use Rattle.std.specs.Borrow.{Bor, MutBor}
 use Rattle.rounding.specs.Near.{near}
 use Rattle.rounding.specs.Fraction.{whole, divided_by, Within}
 use Rattle.records.specs.Order.{refused, accepted}
@@ -13,8 +14,6 @@ use Rattle.properties.specs.Answers.{numbers}
 use Rattle.properties.specs.Quantities.{calorific_bound}
 use Rattle.properties.specs.Accepted.{Shown}
 use Rattle.meter.specs.declared.Gas.{Gas}
-use Rattle.meter.specs.declared.InForce.{InForce}
-use Rattle.meter.specs.declared.InForce.TheVariants.{Nothing, Known}
 use Rattle.meter.specs.declared.Meter.{Meter}
 use Rattle.meter.specs.declared.TotalsAnswer.{TotalsAnswer}
 use Rattle.meter.specs.declared.MeanAnswer.{MeanAnswer}
@@ -48,10 +47,10 @@ pub record AnalysisShown (bs : List ℕ) : Type 0 where
   pub shown : Shown bs contents
 
 -- the analysis in force on a stream of the meter is that of the tally's record: its pair, and its properties
-pub data SameInForce : InForce → Option (List ℕ) → Type 0 where
-  nothing : SameInForce Nothing none
-  known : (bs : List ℕ) (gas : Gas) → gas.combustion ≡ combustion_in bs → gas.metering ≡ metering_in bs →
-      accepted (numbers gas.properties) ≡ properties_of bs → SameInForce (Known gas) (some bs)
+pub data SameInForce : InForce Gas → Option (List ℕ) → Type 0 where
+  nothing : SameInForce None none
+  known : (bs : List ℕ) (gas : Gas) → gas.pair.combustion ≡ combustion_in bs → gas.pair.metering ≡ metering_in bs →
+      accepted (numbers gas.properties) ≡ properties_of bs → SameInForce (Some gas) (some bs)
 
 -- what is booked is within 2 units per dm³ of V from what is exact: of energy 2 mJ, of mass 2 × 10^-11 kg per dm³
 abbrev pub AccountWithin : ℕ → Account → Type 0
@@ -67,10 +66,10 @@ pub record StreamDemand (k : ℕ) (s : StreamTally) (cs : List Call) (rs : List 
   -- V is the sum of the accepted volumes
   pub volume : s.volume ≡ accepted_volume k cs rs
   -- a reading of totals made then answers V, and the E of each energy and of the mass in two parts
-  pub totals : (r : TotalsAnswer) → TotalsReturns m k r → totals_answer r ≡ accepted (given_by totals s)
+  pub totals : (κs : Lfts 1) (w : Bor Meter) (r : TotalsAnswer) → w.now ≡ m → TotalsReturns κs w k r → totals_answer r ≡ accepted (given_by totals s)
   -- of each energy, a reading of the mean made then answers near(E / V), or 18 where V is 0, and E and the mean are within their distances
-  pub mean : (e : Energy) (r : MeanAnswer) → MeanReturns e m k r → 0 < s.volume → mean_answer r ≡ accepted (given_by (mean e) s)
-  pub no_mean : (e : Energy) (r : MeanAnswer) → MeanReturns e m k r → s.volume ≡ 0 → mean_answer r ≡ refused 18
+  pub mean : (e : Energy) (κs : Lfts 1) (w : Bor Meter) (r : MeanAnswer) → w.now ≡ m → MeanReturns e κs w k r → 0 < s.volume → mean_answer r ≡ accepted (given_by (mean e) s)
+  pub no_mean : (e : Energy) (κs : Lfts 1) (w : Bor Meter) (r : MeanAnswer) → w.now ≡ m → MeanReturns e κs w k r → s.volume ≡ 0 → mean_answer r ≡ refused 18
   pub energy_within : (e : Energy) → AccountWithin s.volume (account_of e s)
   pub mean_within : (e : Energy) → MeanWithin s.volume (account_of e s)
   -- the mass is within its distance
@@ -79,10 +78,10 @@ pub record StreamDemand (k : ℕ) (s : StreamTally) (cs : List Call) (rs : List 
 
 -- what the contracts require of a meter, with any other arguments
 pub record Required (m : Meter) : Type 0 where
-  pub analysis : (κs : Lfts 1) (k : ℕ) (b : Bor (List ℕ)) → AnalysisAsks κs m k b
-  pub metering : (k v : ℕ) → MeteringAsks m k v
-  pub totals : (k : ℕ) → TotalsAsks m k
-  pub mean : (e : Energy) (k : ℕ) → MeanAsks e m k
+  pub analysis : (κs : Lfts 2) (w : MutBor Meter) (k : ℕ) (b : Bor (List ℕ)) → w.now ≡ m → AnalysisAsks κs w k b
+  pub metering : (κs : Lfts 1) (w : MutBor Meter) (k v : ℕ) → w.now ≡ m → MeteringAsks κs w k v
+  pub totals : (κs : Lfts 1) (w : Bor Meter) (k : ℕ) → w.now ≡ m → TotalsAsks κs w k
+  pub mean : (e : Energy) (κs : Lfts 1) (w : Bor Meter) (k : ℕ) → w.now ≡ m → MeanAsks e κs w k
 
 -- totals and means are readings
 abbrev pub is_reading : Ask → Bool
@@ -103,7 +102,7 @@ pub data StepLeaves : Meter → List Call → List Answer → Meter → Type 0 w
   next_call : (m m₁ m₂ : Meter) (c : Call) (a : Answer) (cs : List Call) (rs : List Answer) → Leaves m c a m₁ → StepLeaves m₁ cs rs m₂ →
       StepLeaves m (c ∷ cs) (a ∷ rs) m₂
 
--- each step of a list, on the meter as the one before it returned or left it
+-- each step of a list, on the meter as the one before it left it
 unfoldable pub EachLeaves : (m : Meter) (cs : List Call) (rs : List Answer) (m' : Meter) → Run m cs rs m' → Type 0
 EachLeaves m cs rs m' (ended m₁) = Unit
 EachLeaves m cs rs m' (after m₀ m₁ m₂ cs₁ cs₂ rs₁ rs₂ s more) = StepLeaves m₀ cs₁ rs₁ m₁ × EachLeaves m₁ cs₂ rs₂ m₂ more
