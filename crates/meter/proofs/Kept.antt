@@ -10,12 +10,12 @@ use borrow.Author.Tests.{le-ltb, ltb-false, eqb-false}
 use lib.Dec.{eqb}
 use lib.ListN.{length-set}
 use lib.Seq.{get_or-set_other}
-use Rattle.records.specs.declared.Verdict.{Verdict}
-use Rattle.records.specs.Order.{accepted, first_of, decided}
+use Rattle.records.specs.Refusals.{Verdict}
+use Rattle.records.specs.Order.{accepted, first_of, decided, otherwise}
 use Rattle.records.specs.Format.{contents_in}
 use Rattle.records.specs.Conditions.{record_order}
-use Rattle.records.specs.Answers.{Gives, verdict_of}
-use Rattle.records.proofs.OrderLaws.{unmet, decided_accepted, gives}
+use Rattle.records.specs.Answers.{Gives}
+use Rattle.records.proofs.OrderLaws.{unmet, decided_accepted}
 use Rattle.records.proofs.RoundTrips.{accepted_head}
 use Rattle.records.proofs.Accepted.{acceptable}
 use Rattle.properties.specs.Bounds.{calorific_low, density_low}
@@ -53,10 +53,9 @@ with_sound m k s h sound =
     at j c false = h.each j c
 
 -- a call that replaces one stream where its number is 0
-kept : (n : ℕ) (m : Meter) (k : ℕ) (s : Stream) (v : Verdict) (after : Meter) → Gives (decided n (with_stream m k s)) m v after → Sound m →
-    (n ≡ 0 → SoundStream s) → Sound after
-kept zero m k s v after gives h new = subst Sound (sym gives.stands) (with_sound m k s h (new refl))
-kept (suc n) m k s v after gives h new = subst Sound (sym gives.stands) h
+kept : (n : ℕ) (m : Meter) (k : ℕ) (s : Stream) → Sound m → (n ≡ 0 → SoundStream s) → Sound (otherwise m (decided n (with_stream m k s)))
+kept zero m k s h new = with_sound m k s h (new refl)
+kept (suc n) m k s h new = h
 
 -- the gas of an accepted record
 pub sound_gas : (bs : List ℕ) → first_of (record_order bs) ≡ 0 → SoundGas (gas_of bs)
@@ -64,21 +63,21 @@ sound_gas bs clear =
     let gas = acceptable bs clear in
     record { pair = (accepted_head bs clear).pair; properties = proper (contents_in bs) gas; air = density_by_air (contents_in bs) gas }
 
+-- the meter after an analysis, accepted or refused, is sound
+pub sound_after_analysis : (k : ℕ) (bs : List ℕ) (m : Meter) → Sound m → Sound (after_analysis m k bs)
+sound_after_analysis k bs m h =
+    let s = stream_at m k in
+    kept (first_of (analysis_order k bs s)) m k (analysed s bs) h
+    (λ z. let c = clear_analysis k bs s z in record { analysis = sound_gas bs c.clear; totals = (h.each k c.stream).totals })
+
 pub analysis_keeps : AnalysisKeeps
-analysis_keeps m k bs v after gives h =
-    kept (first_of (analysis_order k bs s)) m k (analysed s bs) v after gives h
-    (λ z.
-    let c = clear_analysis k bs s z in
-    record { analysis = sound_gas bs c.clear; totals = (h.each k c.stream).totals })
-  where
-    s : Stream
-    s = stream_at m k
+analysis_keeps m k bs v after gives h = subst Sound (sym gives.stands) (sound_after_analysis k bs m h)
 
 -- an energy with a volume w at a value x
 sound_energy : {v : ℕ} (w : ℕ) {x : ℕ} (e : Register) → SoundEnergy v e → calorific_low ≤ x → x ≤ calorific_bound → SoundEnergy (v + w) (booked per_mj e (w * x))
 sound_energy {v} w {x} e = sound_booked per_mj (omega arith) calorific_low calorific_bound v w x e
 
-sound_metered : (s : Stream) (w : ℕ) (a : Option Gas) → s.analysis ≡ a → SoundStream s → s.totals.volume + w ≤ most_total → SoundStream (with_volume a w s)
+pub sound_metered : (s : Stream) (w : ℕ) (a : Option Gas) → s.analysis ≡ a → SoundStream s → s.totals.volume + w ≤ most_total → SoundStream (with_volume a w s)
 sound_metered s w None is old total = old
 sound_metered s w (Some gas) is old total =
     let t = s.totals in
@@ -96,27 +95,15 @@ sound_metered s w (Some gas) is old total =
       };
     }
 
-pub metering_keeps : MeteringKeeps
-metering_keeps m k w v after gives h =
-    kept (first_of (metering_order k w s)) m k (metered s w) v after gives h
-    (λ z.
-    let c = clear_metering k w s z in
-    let old = h.each k c.stream in
-    sound_metered s w s.analysis refl old c.total)
-  where
-    s : Stream
-    s = stream_at m k
-
--- the meter after a call, accepted or refused, is sound
-pub sound_after_analysis : (k : ℕ) (bs : List ℕ) (m : Meter) → Sound m → Sound (after_analysis m k bs)
-sound_after_analysis k bs m =
-    let n = first_of (analysis_order k bs (stream_at m k)) in
-    analysis_keeps m k bs (verdict_of n) (after_analysis m k bs) (gives n (with_stream m k (analysed (stream_at m k) bs)) m _ _ refl refl)
-
+-- and after a volume
 pub sound_after_metering : (k v : ℕ) (m : Meter) → Sound m → Sound (after_metering m k v)
-sound_after_metering k v m =
-    let n = first_of (metering_order k v (stream_at m k)) in
-    metering_keeps m k v (verdict_of n) (after_metering m k v) (gives n (with_stream m k (metered (stream_at m k) v)) m _ _ refl refl)
+sound_after_metering k v m h =
+    let s = stream_at m k in
+    kept (first_of (metering_order k v s)) m k (metered s v) h
+    (λ z. let c = clear_metering k v s z in sound_metered s v s.analysis refl (h.each k c.stream) c.total)
+
+pub metering_keeps : MeteringKeeps
+metering_keeps m k w v after gives h = subst Sound (sym gives.stands) (sound_after_metering k w m h)
 
 -- every other stream after a call that replaces one
 pub others_stay : (n : ℕ) (m : Meter) (k : ℕ) (s : Stream) (v : Verdict) (after : Meter) → Gives (decided n (with_stream m k s)) m v after →

@@ -4,8 +4,8 @@ use mathlib.Core.List.{List, ◌∷◌}
 use Prim.Native.Nat.{ℕ, zero, suc, ◌≤◌}
 use lib.Dec.{ltb}
 use lib.Seq.{set-get_or}
-use Rattle.records.specs.declared.Verdict.{Verdict}
-use Rattle.records.specs.declared.Verdict.TheVariants.{Accepted, Refused}
+use Rattle.records.specs.Refusals.{Verdict}
+use Rattle.std.specs.Prelude.{Ok, Err}
 use Rattle.records.specs.Order.{Order, first_of, decided, mapped}
 use Rattle.records.specs.Answers.{meaning, Gives}
 use Rattle.meter.specs.declared.Stream.{Stream}
@@ -15,8 +15,8 @@ use Rattle.meter.proofs.Orders.{not_above}
 
 -- a verdict beside a function of a value
 meaning_mapped : {A B : Type 0} (f : A → B) (v : Verdict) (a : A) → meaning v (f a) ≡ mapped f (meaning v a)
-meaning_mapped f Accepted a = refl
-meaning_mapped f (Refused n) a = refl
+meaning_mapped f (Ok u) a = refl
+meaning_mapped f (Err e) a = refl
 
 module _ (m : Meter) (k : ℕ) (new : Stream) {v : Verdict} {s : Stream} where
   replaced : (n : ℕ) → Gives (decided n new) (stream_at m k) v s → Gives (decided n (with_stream m k new)) m v (with_stream m k s)

@@ -1,7 +1,7 @@
 -- What is shown of every meter. `Sound`, the one thing that a contract asks of a meter, holds of a meter as made, and every call that
 -- may change the meter keeps it.
 use Rattle.std.specs.Prelude.{◌≡◌, false, List, ℕ, ◌*◌, ◌^◌, ◌≤◌, ◌<◌}
-use Rattle.records.specs.declared.Verdict.{Verdict}
+use Rattle.records.specs.Refusals.{Verdict}
 use Rattle.records.specs.Order.{Outcome, accepted, first_of}
 use Rattle.records.specs.Answers.{Gives}
 use Rattle.properties.specs.Quantities.{calorific_bound}

@@ -1,20 +1,22 @@
 // The meter of document 01: sixteen streams, each with the analysis in force, a volume total, two energies and a mass. Every call on a
-// meter as made or as its calls left it, with any stream, record and volume, gets its answer or the one number of its refusal. A call
+// meter as made or as its calls left it, with any stream, record and volume, gets its answer or the one reason of its refusal. A call
 // that is refused leaves the meter as it was.
 #![tactic(auto)]
 
-ghost use Rattle.std.specs.Prelude.{◌≡◌, ◌+◌, ◌*◌, ◌^◌, ◌≤◌, ◌<◌};
+ghost use Rattle.std.specs.Prelude.{◌≡◌, ◌+◌, ◌*◌, ◌^◌, ◌≤◌, ◌<◌, IfOk};
+ghost use Rattle.records.specs.Order.{first_of};
+ghost use Rattle.records.specs.Refusals.{number_in};
 ghost use Rattle.records.specs.Answers.{Gives};
 ghost use Rattle.properties.specs.Quantities.{Bounded};
 ghost use Rattle.properties.specs.Answers.{numbers};
-ghost use Rattle.meter.specs.State.{most_volume, most_total, fresh_meter, SoundEnergy, SoundTotals};
-ghost use Rattle.meter.specs.Conditions.{pair_differs};
+ghost use Rattle.meter.specs.State.{last_stream, most_volume, most_total, fresh_meter, SoundEnergy, SoundTotals};
+ghost use Rattle.meter.specs.Conditions.{pair_differs, totals_order};
 ghost use Rattle.meter.specs.Calls.{booked, added, stream_analysis, stream_metering, analysis_of, metering_of, totals_of, mean_over, mean_for, register_of};
 ghost use Rattle.meter.specs.Answers.{totals_meaning, mean_meaning};
 
+use properties::Properties;
 use properties::quantities::CalorificValue;
-use properties::{Answer, Properties};
-use records::Verdict;
+use records::{Record, Refusal};
 use std::marker::Model;
 
 // The last stream.
@@ -92,18 +94,15 @@ pub struct Meter {
     streams: [Stream; 16],
 }
 
-// The totals, or document 01's number.
-#[derive(Clone, Copy)]
-pub enum TotalsAnswer {
-    Accepted(StreamTotals),
-    Refused(u8),
-}
-
-// A mean, or document 01's number.
-#[derive(Clone, Copy)]
-pub enum MeanAnswer {
-    Accepted(CalorificValue),
-    Refused(u8),
+// 13: the stream is above 15.
+pub fn check_stream(stream: usize) -> Result<(), Refusal>
+    ensures number { number_in result ≡ first_of (totals_order stream) }
+    ensures within { IfOk result (λ _. stream ≤ last_stream) }
+{
+    if LAST_STREAM < stream {
+        return Err(Refusal::StreamAbove);
+    }
+    Ok(())
 }
 
 impl Register {
@@ -122,16 +121,14 @@ impl Register {
     }
 
     // The mean calorific value of an energy over a volume, in J/m³, or 18.
-    pub fn mean_over(self, volume: u64) -> MeanAnswer
+    pub fn mean_over(self, volume: u64) -> Result<CalorificValue, Refusal>
         requires { SoundEnergy volume self × (volume ≤ most_total) }
         ensures { mean_meaning result ≡ mean_over self volume }
     {
         if volume == 0 {
-            return MeanAnswer::Refused(18);
+            return Err(Refusal::TotalZero);
         }
-        MeanAnswer::Accepted(CalorificValue::new(rounding::nearest_wide(
-            self.whole, self.rest, volume,
-        )))
+        Ok(CalorificValue::new(rounding::nearest_wide(self.whole, self.rest, volume)))
     }
 }
 
@@ -170,43 +167,39 @@ impl Stream {
     }
 
     // The properties of a record come into force, where 13 does not hold.
-    fn analysis(&mut self, bytes: &[u8]) -> Verdict
+    fn analysis(&mut self, bytes: &[u8]) -> Result<(), Refusal>
         ensures { Gives (stream_analysis self.old bytes.now) self.old result self.new }
     {
-        let properties = match properties::properties_of(bytes) {
-            Answer::Refused(number) => return Verdict::Refused(number),
-            Answer::Accepted(properties) => properties,
-        };
+        let accepted = Record::new(bytes)?;
         let pair = Pair {
-            combustion: records::combustion_in(bytes),
-            metering: records::metering_in(bytes),
+            combustion: accepted.combustion(),
+            metering: accepted.metering(),
         };
         if self.pair_differs(pair) {
-            return Verdict::Refused(14);
+            return Err(Refusal::PairDiffers);
         }
+        let properties = properties::properties_in(&accepted);
         self.analysis = Some(Gas { pair, properties });
-        Verdict::Accepted
+        Ok(())
     }
 
     // The stream takes a volume, in dm³, where 13 does not hold.
-    fn metering(&mut self, volume: u64) -> Verdict
+    fn metering(&mut self, volume: u64) -> Result<(), Refusal>
         ensures { Gives (stream_metering self.old volume) self.old result self.new }
     {
         if MOST_VOLUME < volume {
-            return Verdict::Refused(15);
+            return Err(Refusal::VolumeAbove);
         }
-        let Some(gas) = self.analysis else {
-            return Verdict::Refused(16);
-        };
+        let gas = self.analysis.ok_or(Refusal::NoAnalysis)?;
         if MOST_TOTAL - self.totals.volume < volume {
-            return Verdict::Refused(17);
+            return Err(Refusal::TotalPasses);
         }
         self.totals = self.totals.added(gas.properties, volume);
-        Verdict::Accepted
+        Ok(())
     }
 
     // The mean calorific value of an energy of what the stream has taken, in J/m³, or 18.
-    fn mean(&self, energy: Energy) -> MeanAnswer
+    fn mean(&self, energy: Energy) -> Result<CalorificValue, Refusal>
         ensures { mean_meaning result ≡ mean_over (register_of energy self.now.totals) self.now.totals.volume }
     {
         self.totals
@@ -230,42 +223,35 @@ impl Meter {
     }
 
     // The properties of a record come into force on a stream.
-    pub fn analysis(&mut self, stream: usize, bytes: &[u8]) -> Verdict
+    pub fn analysis(&mut self, stream: usize, bytes: &[u8]) -> Result<(), Refusal>
         ensures { Gives (analysis_of self.old stream bytes.now) self.old result self.new }
     {
-        if LAST_STREAM < stream {
-            return Verdict::Refused(13);
-        }
+        check_stream(stream)?;
         self.streams[stream].analysis(bytes)
     }
 
     // A stream takes a volume, in dm³.
-    pub fn metering(&mut self, stream: usize, volume: u64) -> Verdict
+    pub fn metering(&mut self, stream: usize, volume: u64) -> Result<(), Refusal>
         ensures { Gives (metering_of self.old stream volume) self.old result self.new }
     {
-        if LAST_STREAM < stream {
-            return Verdict::Refused(13);
-        }
+        check_stream(stream)?;
         self.streams[stream].metering(volume)
     }
 
     // The volume, the energies and the mass of a stream.
-    pub fn totals(&self, stream: usize) -> TotalsAnswer
+    pub fn totals(&self, stream: usize) -> Result<StreamTotals, Refusal>
         ensures { totals_meaning result ≡ totals_of self.now stream }
     {
-        let Some(named) = self.streams.get(stream) else {
-            return TotalsAnswer::Refused(13);
-        };
-        TotalsAnswer::Accepted(named.totals)
+        check_stream(stream)?;
+        let named = &self.streams[stream];
+        Ok(named.totals)
     }
 
     // The mean calorific value of an energy of what a stream has taken, in J/m³.
-    pub fn mean(&self, stream: usize, energy: Energy) -> MeanAnswer
+    pub fn mean(&self, stream: usize, energy: Energy) -> Result<CalorificValue, Refusal>
         ensures { mean_meaning result ≡ mean_for energy self.now stream }
     {
-        let Some(named) = self.streams.get(stream) else {
-            return MeanAnswer::Refused(13);
-        };
-        named.mean(energy)
+        check_stream(stream)?;
+        self.streams[stream].mean(energy)
     }
 }

@@ -16,5 +16,5 @@ returns c =
     let bs = c.args.bytes.now in
     let s = stream_at m k in
     let within : k < length m.streams = omega arith in
-    on_stream m k (analysed s bs) (stream_analysis_order bs s) c.if-stream-gt-LAST_STREAM.false
+    on_stream m k (analysed s bs) (stream_analysis_order bs s) c.in_ok-check_stream.ensures.within
     (rw (get_or_default m.streams k _ fresh_stream within) at c.analysis.ensures)

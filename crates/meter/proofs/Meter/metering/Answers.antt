@@ -16,5 +16,5 @@ returns c =
     let v = c.args.volume in
     let s = stream_at m k in
     let within : k < length m.streams = omega arith in
-    on_stream m k (metered s v) (stream_metering_order v s) c.if-stream-gt-LAST_STREAM.false
+    on_stream m k (metered s v) (stream_metering_order v s) c.in_ok-check_stream.ensures.within
     (rw (get_or_default m.streams k _ fresh_stream within) at c.metering.ensures)

@@ -1,23 +1,20 @@
 -- The record's number, 14, or the stream with the record's gas.
-use mathlib.Core.Path.{sym, ap, ◌∙◌}
-use Rattle.meter.proofs.Analyses.{record_refused, pair_refused, gas_accepted, sound_with}
-use Rattle.meter.specs.declared.Stream.{Stream}
+use mathlib.Core.Path.{sym, ◌∙◌}
+use Rattle.meter.proofs.Analyses.{record_refused, pair_refused, sound_with}
 use Rattle.meter.proofs.Stream.analysis.Goals as goal
 
-pub returns-in-Refused : goal.returns-in-Refused
-returns-in-Refused c = record_refused c.args.self.now c.args.bytes.now _ c.in-Refused.ensures
+pub returns-in_err-accepted : goal.returns-in_err-accepted
+returns-in_err-accepted c =
+    record_refused c.args.self.now c.args.bytes.now _ c.in_err-accepted.field-0.0 c.from_residual.ensures.1 c.in_err-accepted.ensures.number
 
 pub returns-then-pair_differs : goal.returns-then-pair_differs
 returns-then-pair_differs c =
-    pair_refused c.args.self.now c.args.bytes.now c.in-Accepted.properties c.in-Accepted.ensures c.combustion_in.ensures c.metering_in.ensures
+    let e = c.in_ok-accepted.ensures in
+    pair_refused c.args.self.now c.args.bytes.now e.number (rw e.same at c.combustion.ensures) (rw e.same at c.metering.ensures)
     (sym c.if-pair_differs.true ∙ c.pair_differs.ensures)
 
 pub invariant_of-self : goal.invariant_of-self
 invariant_of-self c =
-    sound_with c.args.self.now c.args.bytes.now c.in-Accepted.properties c.in-Accepted.ensures c.combustion_in.ensures c.metering_in.ensures
-    c.self.invariant.totals
-
-pub returns : goal.returns
-returns c =
-    gas_accepted c.args.self.now c.args.bytes.now c.in-Accepted.properties c.in-Accepted.ensures c.combustion_in.ensures c.metering_in.ensures
-    (ap (λ (s : Stream). s.totals) c.self.view_is) (sym c.if-pair_differs.false ∙ c.pair_differs.ensures)
+    let e = c.in_ok-accepted.ensures in
+    sound_with c.args.bytes.now e.number c.properties_in-properties.result (rw e.same at c.combustion.ensures) (rw e.same at c.metering.ensures)
+    (rw e.same at c.properties_in-properties.ensures) c.self.invariant.totals
