@@ -6,6 +6,7 @@ ghost use Rattle.printed_tables.specs.Gas.{gas, line_at, fraction_at, mass_part,
 ghost use Rattle.printed_tables.specs.TableD1.{row_weight, row_scale, row_figure};
 
 use super::tables;
+use components::{Combustion, Metering, Sums};
 use properties::steps;
 
 // The lines, and their mole fractions in ppm.
@@ -97,14 +98,14 @@ fn volume_part(i: usize) -> u64
 }
 
 // The sums of the gas over the component table, h and s at 15 °C.
-fn sums() -> components::Sums
+fn sums() -> Sums
     ensures superior { result.superior ≡ HmSuperior gas }
     ensures mass { result.mass ≡ M gas }
     ensures summation { result.summation ≡ S gas }
 {
-    let mut sums = components::no_sums();
+    let mut sums = Sums::default();
     for i in 0..8 {
-        sums = components::add_to_sums(sums, LINES[i], FRACTIONS[i], 2, 1);
+        sums.add(LINES[i], FRACTIONS[i], Combustion::At15, Metering::At15);
     }
     sums
 }

@@ -13,7 +13,7 @@ use mir.Facts.{to_z-of_z}
 use Rattle.rounding.specs.Fraction.{Within, ◌over◌, half, whole}
 use Rattle.rounding.specs.Root.{Root}
 use Rattle.rounding.proofs.NearLaws.{near_half, near_monotone, near_z_half}
-use Rattle.rounding.proofs.SignedWords.{fits64}
+use Rattle.std.proofs.lemmas.Int.{fits_signed_from_abs}
 use Rattle.rounding.proofs.FractionLaws.{within_wider, within_one}
 use Rattle.components.specs.Table.{superior, inferior, Heat, Unsigned}
 use Rattle.components.specs.Composition.{sum_of, over_lines}
@@ -98,7 +98,7 @@ module _ (k : Contents) (a : Acceptable k) where
   -- T, D and A
   -- a number that is S is the same as a signed word
   pub summation_word : {s : ℤ} → s ≡ S k → to_z w64 (of_z w64 s) ≡ s
-  summation_word is = to_z-of_z (fits64 _ (rw is (omega (arith, summation_high_lem))))
+  summation_word is = to_z-of_z (fits_signed_from_abs w64 _ (rw is (omega (arith, summation_high_lem))))
 
   D-low : divisor_low ≤ D k
   unfolding D T
