@@ -3,7 +3,6 @@ use mathlib.Core.List.{List, []}
 use mathlib.Core.Logic.{⊎_elim}
 use mathlib.Core.Bool.{Bool, ◌||◌}
 use Prim.Native.Nat.{ℕ, ◌-◌, ◌*◌, ◌≤◌, ◌<◌}
-use native.Mathlib.Nat.{lt_of_le_of_lt}
 use native.Mathlib.Omega.{arith}
 use lib.Dec.{T, leb, ltb, leb→le}
 use lib.IntN.{ℤ, pos, nat_abs}
@@ -12,7 +11,7 @@ use lib.Signed.{non_neg}
 use borrow.Author.Tests.{le-ltb}
 use mir.Syntax.{w32}
 use mir.Val.{SFits}
-use Rattle.rounding.proofs.SignedWords.{mag≤}
+use Rattle.std.proofs.lemmas.Int.{fits_signed_from_abs}
 use Rattle.components.specs.Table.{component_table, entry_of, molar_mass, summation, superior, inferior, Heat, Unsigned}
 use Rattle.components.specs.Bounds.{heat_by_mass}
 use Rattle.components.specs.Tests.{all}
@@ -75,7 +74,7 @@ entry_by_mass l c (lo, hi) =
     (at (by_mass (get_or component_table (l - 1) [])) 12 (row_at (λ (row : List ℤ). every (by_mass row) 12) tt tt l) c hi))
 
 pub entry_fits : (l c : ℕ) → SFits w32 (entry_of l c)
-entry_fits l c = record { sfits = lt_of_le_of_lt (mag≤ (entry_of l c)) (omega (arith, entry_below l c)) }
+entry_fits l c = fits_signed_from_abs w32 _ (omega (arith, entry_below l c))
 
 -- no molar mass and no h is below 0
 mass_unsigned : List ℤ → Bool

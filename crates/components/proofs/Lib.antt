@@ -1,7 +1,7 @@
 pub mod Every
 mod RuleLaws
-pub mod Row
 pub mod Entries
+pub mod Places
 pub mod SignedSums
 pub mod SumLaws
 pub mod AllLines

@@ -114,7 +114,7 @@ pub fn gas_totals() -> Totals
 {
     let sums = sums();
     let m = sums.mass;
-    let s = rounding::size(sums.summation);
+    let s = sums.summation.unsigned_abs();
     let mut x = 0;
     let mut mass = 0;
     let mut volume = 0;

@@ -20,7 +20,7 @@ pub fn number(line: usize, column: usize) -> u64
     requires { (1 ≤ line) × (line ≤ 55) × (column < 12) }
     ensures { result ≡ number_of line column }
 {
-    rounding::size(components::entry(line as u8, column) as i64)
+    components::entry(line as u8, column).unsigned_abs() as u64
 }
 
 // The conditions of table 5, 15/15, 0/0, 15/0, 25/0, 20/20 and 25/20: the column of superior h, and the metering temperature, °C.

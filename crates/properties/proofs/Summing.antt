@@ -1,16 +1,14 @@
 -- The sums that the code has made of an accepted record, as the sums of its contents.
-use mathlib.Core.Path.{◌≡◌, ◌∙◌}
+use mathlib.Core.Path.{◌≡◌}
 use mathlib.Core.List.{List}
 use Prim.Native.Nat.{ℕ}
 use lib.IntN.{ℤ}
 use Rattle.records.specs.Order.{first_of}
 use Rattle.records.specs.Format.{Contents, metering_in, contents_in}
 use Rattle.records.specs.Conditions.{record_order}
-use Rattle.records.specs.Accepted.{Acceptable}
 use Rattle.records.proofs.Accepted.{acceptable}
 use Rattle.properties.specs.Chain.{HmSuperior, HmInferior, M, S}
 use Rattle.properties.specs.Accepted.{SumsOf, Summed}
-use Rattle.properties.proofs.Gas.{summation_word}
 
 module _ (bs : List ℕ) (clear : first_of (record_order bs) ≡ 0) where
   abbrev k : Contents

@@ -1,33 +1,33 @@
 // 1. The sums of a record over the component table.
 ghost use Rattle.std.specs.Prelude.{◌≡◌};
+ghost use Rattle.components.specs.Temperatures.{heat_place, summation_place};
 ghost use Rattle.records.specs.Format.{contents_in};
 ghost use Rattle.properties.specs.Chain.{combustion_place, metering_place, HmSuperior, HmInferior, M, S};
 
-use super::steps;
-use components::Sums;
+use components::{Combustion, Metering, Sums};
 use records::{Entries, Record};
 
-// The place of a combustion temperature among 25, 20, 15 and 0 °C.
-fn combustion_place(combustion: u8) -> usize
-    ensures { result ≡ combustion_place combustion }
+// The combustion temperature of the table, from its °C.
+fn combustion_of(celsius: u8) -> Combustion
+    ensures { heat_place result ≡ combustion_place celsius }
 {
-    if combustion == 25 {
-        return 0;
+    match celsius {
+        25 => Combustion::At25,
+        20 => Combustion::At20,
+        15 => Combustion::At15,
+        _ => Combustion::At0,
     }
-    if combustion == 20 {
-        return 1;
-    }
-    if combustion == 15 {
-        return 2;
-    }
-    3
 }
 
-// The place of a metering temperature among 0, 15 and 20 °C.
-fn metering_place(metering: u8) -> usize
-    ensures { result ≡ metering_place metering }
+// The metering temperature of the table, from its °C.
+fn metering_of(celsius: u8) -> Metering
+    ensures { summation_place result ≡ metering_place celsius }
 {
-    steps::for_metering(0, 1, 2, metering) as usize
+    match celsius {
+        0 => Metering::At0,
+        15 => Metering::At15,
+        _ => Metering::At20,
+    }
 }
 
 // The sums of an accepted record, in one pass over its entries.
@@ -37,12 +37,12 @@ pub fn sums_of(accepted: &Record) -> Sums
     ensures mass { result.mass ≡ M (contents_in accepted.now.bytes.now) }
     ensures summation { result.summation ≡ S (contents_in accepted.now.bytes.now) }
 {
-    let t = combustion_place(accepted.combustion());
-    let k = metering_place(accepted.metering());
+    let combustion = combustion_of(accepted.combustion());
+    let metering = metering_of(accepted.metering());
     let entries = accepted.entries();
-    let mut sums = components::no_sums();
+    let mut sums = Sums::default();
     for i in 0..entries.len() {
-        sums = components::add_to_sums(sums, entries.line(i), entries.fraction(i), t, k);
+        sums.add(entries.line(i), entries.fraction(i), combustion, metering);
     }
     sums
 }

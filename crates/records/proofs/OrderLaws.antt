@@ -8,8 +8,7 @@ use lib.Dec.{T, eqb}
 use Rattle.std.specs.Prelude.{Result, Ok, Err}
 use Rattle.std.specs.Result.{IsErrAnd}
 use Rattle.records.specs.declared.refusal.Refusal.{Refusal}
-use Rattle.records.specs.declared.refusal.Refusal.TheVariants as refusal
-use Rattle.records.specs.Order.{Order, Outcome, first_of, refused, accepted, decided, otherwise, mapped}
+use Rattle.records.specs.Order.{Order, first_of, refused, accepted, decided, otherwise, mapped}
 use Rattle.records.specs.Refusals.{Verdict, number, number_in, outcome}
 use Rattle.records.specs.Answers.{Gives}
 

@@ -6,7 +6,7 @@ use Rattle.std.specs.Prelude.{Result, Ok, Err}
 use Rattle.records.specs.declared.refusal.Refusal.{Refusal}
 use Rattle.records.specs.Refusals.{Verdict, number, number_in}
 use Rattle.records.specs.Refusals as refusals
-use Rattle.records.specs.Answers.{Gives, meaning, number_of, Returns}
+use Rattle.records.specs.Answers.{Gives, number_of, Returns}
 
 module _ {A : Type 0} {outcome : Outcome A} (before : A) {number : ℕ} {after : A} where
   pub refusal : {n : ℕ} → refused n ≡ outcome → number ≡ n → after ≡ before → Returns outcome before number after

@@ -68,14 +68,16 @@ fn check_lines<E: Entries>(entries: &E) -> Result<(), Refusal>
     ensures { number_in result ≡ first_of (lines_order (E.lines entries.now)) }
 {
     let mut before = 0;
-    for k in 0..entries.len() {
-        let line = entries.line(k);
-        if line_breaks(before, line) {
-            return Err(Refusal::LineOutOfOrder);
+    'lines: {
+        for k in 0..entries.len() {
+            let line = entries.line(k);
+            if line_breaks(before, line) {
+                break 'lines Err(Refusal::LineOutOfOrder);
+            }
+            before = line;
         }
-        before = line;
+        Ok(())
     }
-    Ok(())
 }
 
 // 8 to 12, where 7 does not hold.
@@ -85,14 +87,16 @@ fn check_fractions<E: Entries>(entries: &E) -> Result<(), Refusal>
     ensures { number_in result ≡ first_of (fractions_order (E.lines entries.now) (E.fractions entries.now)) }
 {
     let mut scan = Scan::default();
-    for k in 0..entries.len() {
-        let fraction = entries.fraction(k);
-        if fraction == 0 {
-            return Err(Refusal::FractionZero);
+    'fractions: {
+        for k in 0..entries.len() {
+            let fraction = entries.fraction(k);
+            if fraction == 0 {
+                break 'fractions Err(Refusal::FractionZero);
+            }
+            scan = scan.with(entries.line(k), fraction);
         }
-        scan = scan.with(entries.line(k), fraction);
+        scan.check()
     }
-    scan.check()
 }
 
 // 7 to 12.

@@ -32,9 +32,9 @@ pub fn print_signed(rt: &impl Print, n: i64) -> bool
     requires { nat_abs n < 2 ^ 63 }
 {
     if n < 0 {
-        return print_text(rt, b" -") && print_number(rt, rounding::size(n));
+        return print_text(rt, b" -") && print_number(rt, n.unsigned_abs());
     }
-    print_spaced(rt, rounding::size(n))
+    print_spaced(rt, n.unsigned_abs())
 }
 
 // A line of words and a number.

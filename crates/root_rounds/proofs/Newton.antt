@@ -2,25 +2,10 @@
 use mathlib.Core.Path.{◌≡◌}
 use Prim.Native.Nat.{ℕ, ◌+◌, ◌*◌, ◌-◌, ◌/◌, ◌^◌, ◌≤◌, ◌<◌}
 use native.Mathlib.Omega.{arith}
-use native.Mathlib.Nat.{mul-le-mul, mul-le-mul_left, mul-le-mul_right, le_of_mul-le-mul_right, mul-pos, lt_of_not-le, lt-mul-div-succ, div-mul-le_self, div-lt_iff_lt-mul}
+use native.Mathlib.Nat.{mul-le-mul, mul-le-mul_left, mul-le-mul_right, le_of_mul-le-mul_right, mul-pos, lt_of_not-le, div-mul-le_self, div-lt_iff_lt-mul}
 use native.Mathlib.Decide.{dec_le}
-use Rattle.rounding.specs.Root.{Root, root}
 use Rattle.root_rounds.specs.Search.{next_candidate}
 use Rattle.rounding.proofs.RootLaws.{below_of_squares}
-
--- a product is at most the square of the mean
-ordered : (c e r : ℕ) → 2 * c + e ≤ 2 * r → c * (c + e) ≤ r * r
-ordered c e r h = omega (arith, mul-le-mul h h)
-
-mean_square : (c u r : ℕ) → c + u ≤ 2 * r → c * u ≤ r * r
-mean_square c u r h = either (dec_le c u)
-  where
-    either : Dec (c ≤ u) → c * u ≤ r * r
-    either (yes l) = let e : c + (u - c) ≡ u = omega arith in rw (← e) (ordered c (u - c) r (omega arith))
-    either (no f) =
-        let l = lt_of_not-le f in
-        let e : u + (c - u) ≡ c = omega arith in
-        omega (arith, rw e at (ordered u (c - u) r (omega arith)))
 
 pub square_fits : (c : ℕ) → c < 2 ^ 32 → c * c < 2 ^ 64
 square_fits c h = omega (arith, mul-le-mul h h)
@@ -39,25 +24,6 @@ module _ (n c : ℕ) (h : n < c * c) where
   pub falls : next_candidate n c < c
   unfolding next_candidate
   falls = omega (arith, quotient_below)
-
-module _ (n c : ℕ) (is : Root (root n) n) where
-  -- the mean of c and n/c is at least the root
-  pub not_below : 0 < c → root n ≤ next_candidate n c
-  unfolding next_candidate
-  not_below h = either (dec_le (2 * root n) (c + n / c))
-    where
-      either : Dec (2 * root n ≤ c + n / c) → root n ≤ (c + n / c) / 2
-      either (yes l) = omega arith
-      either (no f) =
-          let l = lt_of_not-le f in
-          absurd (omega (arith, mean_square c (n / c + 1) (root n) (omega arith), is.square, lt-mul-div-succ n {b = c} h))
-
-  -- and at most half as far from it as c is
-  pub half_as_far : root n < c → 2 * next_candidate n c ≤ c + root n
-  unfolding next_candidate
-  half_as_far h =
-      let below : n / c < root n + 1 = (div-lt_iff_lt-mul {k = c} (omega arith)).1 (omega (arith, is.next, mul-le-mul_left (root n + 1) h)) in
-      omega arith
 
 -- the mean times c
 pub mean_times : (n c : ℕ) → 2 * (next_candidate n c * c) ≤ c * c + n

@@ -8,37 +8,38 @@ use native.Mathlib.Decide.{dec_le}
 use borrow.Author.Tests.{le-leb, lt-leb}
 use lib.ListN.{length}
 use lib.Seq.{take_at}
-use Rattle.root_rounds.specs.declared.Round.TheVariants.{Last, Next}
+use Rattle.std.specs.Prelude.{None, Some}
 use Rattle.rounding.specs.Root.{Root, root}
 use Rattle.root_rounds.specs.Search.{next_candidate, hydrogen_below, first_candidate, round_of, candidates_from, candidates, Rounds, last, another, told}
 use Rattle.root_rounds.specs.Laws.{EverySearch, SearchTells, SixRounds}
 use Rattle.rounding.proofs.RootLaws.{below_of_squares, root_is, root_greatest}
-use Rattle.root_rounds.proofs.Newton.{positive, not_below, half_as_far, Close, closer, root_next}
+use Rattle.rounding.proofs.Newton.{not_below, half_as_far}
+use Rattle.root_rounds.proofs.Newton.{positive, Close, closer, root_next}
 use Rattle.root_rounds.proofs.FirstCandidate.{low_distance, first_starts, first_distant, first_close}
 
 -- a round tells whether the square of its candidate is at most n
 module _ (n c : ℕ) where
-  pub is_last : c * c ≤ n → Last ≡ round_of n c
+  pub is_last : c * c ≤ n → None ≡ round_of n c
   unfolding round_of
   is_last h = rw (le-leb (c * c) n h)
 
-  pub is_next : n < c * c → Next (next_candidate n c) ≡ round_of n c
+  pub is_next : n < c * c → Some (next_candidate n c) ≡ round_of n c
   unfolding round_of
   is_next h = rw (lt-leb (c * c) n h)
 
-  pub told_last : round_of n c ≡ Last → c * c ≤ n
+  pub told_last : round_of n c ≡ None → c * c ≤ n
   told_last e = either (dec_le (c * c) n)
     where
       either : Dec (c * c ≤ n) → c * c ≤ n
       either (yes h) = h
-      either (no g) = let e : Next (next_candidate n c) ≡ Last = is_next (lt_of_not-le g) ∙ e in let z : ◌≡◌ {A = ℕ} 0 1 = cc in absurd (omega arith)
+      either (no g) = let e : Some (next_candidate n c) ≡ None = is_next (lt_of_not-le g) ∙ e in let z : ◌≡◌ {A = ℕ} 0 1 = cc in absurd (omega arith)
 
-  pub told_next : (d : ℕ) → round_of n c ≡ Next d → (n < c * c) × (next_candidate n c ≡ d)
+  pub told_next : (d : ℕ) → round_of n c ≡ Some d → (n < c * c) × (next_candidate n c ≡ d)
   told_next d e = either (dec_le (c * c) n)
     where
       either : Dec (c * c ≤ n) → (n < c * c) × (next_candidate n c ≡ d)
-      either (yes h) = let e : Last ≡ Next d = is_last h ∙ e in let z : ◌≡◌ {A = ℕ} 0 1 = cc in absurd (omega arith)
-      either (no g) = let h = lt_of_not-le g in let e : Next (next_candidate n c) ≡ Next d = is_next h ∙ e in (h, cc)
+      either (yes h) = let e : None ≡ Some d = is_last h ∙ e in let z : ◌≡◌ {A = ℕ} 0 1 = cc in absurd (omega arith)
+      either (no g) = let h = lt_of_not-le g in let e : Some (next_candidate n c) ≡ Some d = is_next h ∙ e in (h, cc)
 
 -- and what follows it
 module _ (n f c : ℕ) where

@@ -9,7 +9,8 @@ use lib.Seq.{length-take-le, take-suc-set, drop-set-lt, drop-drop}
 use Rattle.rounding.specs.Root.{root}
 use Rattle.root_rounds.specs.Search.{next_candidate, first_candidate, candidates_from, candidates, Searched}
 use Rattle.rounding.proofs.RootLaws.{root_is}
-use Rattle.root_rounds.proofs.Newton.{positive, falls, not_below}
+use Rattle.rounding.proofs.Newton.{not_below}
+use Rattle.root_rounds.proofs.Newton.{positive, falls}
 use Rattle.root_rounds.proofs.FirstCandidate.{first_starts}
 use Rattle.root_rounds.proofs.Search.{from_last, from_another, root_found, every_search}
 

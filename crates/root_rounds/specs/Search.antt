@@ -1,14 +1,10 @@
 -- The search for the integer root of n, which document 01 leaves to the program, in rounds as W-203 of document 02 has them: each tries one
 -- candidate. It is Newton's method, from above. For the root r of document 01 n is d × 10^10, where d counts 10^-8 of relative density.
-use Rattle.std.specs.Prelude.{◌≡◌, List, [], ◌∷◌, ◌++◌, cond, ℕ, zero, suc, ◌+◌, ◌*◌, ◌-◌, ◌/◌, ◌^◌, ◌≤◌, leb, ltb, length, take, replicate}
-use Rattle.root_rounds.specs.declared.Round.{Round}
-use Rattle.root_rounds.specs.declared.Round.TheVariants.{Last, Next}
+use Rattle.std.specs.Prelude.{◌≡◌, List, [], ◌∷◌, ◌++◌, cond, ℕ, zero, suc, ◌*◌, ◌-◌, ◌^◌, ◌≤◌, leb, ltb, length, take, replicate, Option, None, Some}
 use Rattle.root_rounds.specs.declared.Rooted.{Rooted}
-use Rattle.rounding.specs.Root.{Root, root}
-
+use Rattle.rounding.specs.Root.{Root, root, next_candidate}
 -- the candidate after c: the mean of c and n/c, rounded down
-unfoldable pub next_candidate : ℕ → ℕ → ℕ
-next_candidate n c = (c + n / c) / 2
+unfoldable pub use Rattle.rounding.specs.Root.{next_candidate}
 
 -- Roots that are near those of gases: of n for a relative density of 0.6084 (natural gases), and for 0.070225 (hydrogen).
 abbrev pub natural_root : ℕ
@@ -31,14 +27,14 @@ first_candidate n =
     (next_candidate n hydrogen_root)
     (cond (ltb n natural_below) (next_candidate n natural_root) (2 ^ 32 - 1))
 
--- the round that tries c: it is the last where the square of c is at most n
-unfoldable pub round_of : ℕ → ℕ → Round
-round_of n c = cond (leb (c * c) n) Last (Next (next_candidate n c))
+-- the round that tries c gives the candidate after it; it is the last, and gives none, where the square of c is at most n
+unfoldable pub round_of : ℕ → ℕ → Option ℕ
+round_of n c = cond (leb (c * c) n) None (Some (next_candidate n c))
 
 -- the candidates that come after a round
-abbrev pub following : (ℕ → List ℕ) → Round → List ℕ
-following from Last = []
-following from (Next c) = from c
+abbrev pub following : (ℕ → List ℕ) → Option ℕ → List ℕ
+following from None = []
+following from (Some c) = from c
 
 -- the candidates from c on, in the order in which they are tried, k at most
 unfoldable pub candidates_from : ℕ → ℕ → ℕ → List ℕ

@@ -32,28 +32,23 @@ pub fn first_candidate(n: u64) -> u32
     if n < NATURAL_BELOW {
         return next_candidate(n, NATURAL_ROOT) as u32;
     }
-    4294967295
+    u32::MAX
 }
 
-// A round of the search: the last, or one after which another candidate is tried.
-#[derive(Clone, Copy)]
-pub enum Round {
-    Last,
-    Next(u32),
-}
-
-// One round: it tries the candidate c. Of a c that is at least the root the round is the last just where c is the root.
-pub fn try_candidate(n: u64, c: u32) -> Round
+// One round: it tries the candidate c, and gives the one after it. Of a c that is at least the root there is none just where c is the
+// root, and the round is the last.
+pub fn try_candidate(n: u64, c: u32) -> Option<u32>
     ensures { result ≡ round_of n c }
 {
-    let candidate = c as u64;
+    let candidate = u64::from(c);
     if candidate * candidate <= n {
-        return Round::Last;
+        return None;
     }
-    Round::Next(next_candidate(n, candidate) as u32)
+    Some(next_candidate(n, candidate) as u32)
 }
 
-// A root, the rounds that its search took, and their candidates in the order in which they were tried, with 0 past them.
+// A root, the rounds that its search took, and their candidates in the order in which they were tried, with 0 past them. The candidates
+// stand in an array, and the rounds are counted beside it, since the C interface has no heap and takes an array.
 #[derive(Clone, Copy)]
 pub struct Rooted {
     pub root: u64,
@@ -72,9 +67,9 @@ pub fn root_search(n: u64) -> Rooted
     loop {
         tried[rounds as usize] = c;
         rounds += 1;
-        let Round::Next(next) = try_candidate(n, c) else {
+        let Some(next) = try_candidate(n, c) else {
             return Rooted {
-                root: c as u64,
+                root: u64::from(c),
                 rounds,
                 tried,
             };

@@ -4,5 +4,5 @@ pub mod RootLaws
 pub mod SignedWords
 mod Signs
 mod Quotient
-mod Newton
+pub mod Newton
 mod Cases

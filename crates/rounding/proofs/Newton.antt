@@ -43,7 +43,7 @@ module _ (n c : ℕ) where
     quotient_below = (div-lt_iff_lt-mul {k = c} (omega arith)).1 (omega (arith, is.next, mul-le-mul_left (root n + 1) h))
 
     -- and at most half as far from it as c is
-    half_as_far : 2 * next_candidate n c ≤ c + root n
+    pub half_as_far : 2 * next_candidate n c ≤ c + root n
     unfolding next_candidate
     half_as_far = omega (arith, quotient_below)
 

@@ -1,4 +1,4 @@
-// Rounding to the nearest whole number, halves upward, the size of a signed number, and the integer square root.
+// Rounding to the nearest whole number, halves upward, and the integer square root.
 #![tactic(auto)]
 
 ghost use Rattle.std.specs.Prelude.{◌≡◌, ◌^◌, ◌≤◌, ◌<◌, pos, neg_ℤ, nat_abs};
@@ -41,22 +41,12 @@ pub fn nearest_signed(n: i64, q: u64) -> i64
     requires { (0 < q) × (nat_abs n < 2 ^ 63) }
     ensures { result ≡ near_z n q }
 {
+    let size = n.unsigned_abs();
     if n < 0 {
-        -(nearest_below_zero((-n) as u64, q) as i64)
+        -(nearest_below_zero(size, q) as i64)
     } else {
-        nearest(n as u64, q) as i64
+        nearest(size, q) as i64
     }
-}
-
-// A number without its sign.
-pub fn size(n: i64) -> u64
-    requires { nat_abs n < 2 ^ 63 }
-    ensures { result ≡ nat_abs n }
-{
-    if n < 0 {
-        return (-n) as u64;
-    }
-    n as u64
 }
 
 // A root, and the rounds that its search took.
@@ -74,7 +64,7 @@ fn first_candidate(n: u64) -> u64
     ensures { result ≡ first_candidate n }
 {
     let c = (COMMON_ROOT + n / COMMON_ROOT) / 2;
-    if c < 4294967296 { c } else { 4294967295 }
+    c.min(u64::from(u32::MAX))
 }
 
 // The integer square root by Newton's method, from above: a candidate is at least the root, and at most half as far from it as
@@ -99,6 +89,5 @@ fn root_search(n: u64) -> Rooted
 pub fn integer_root(n: u64) -> u64
     ensures { result ≡ root n }
 {
-    let found = root_search(n);
-    found.root
+    root_search(n).root
 }

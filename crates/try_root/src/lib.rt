@@ -2,12 +2,10 @@
 // own root (rust/benches/root.rs). It is no part of the library that firmware links.
 #![tactic(auto)]
 
-ghost use Rattle.std.specs.Prelude.{◌≡◌};
+ghost use Rattle.std.specs.Prelude.{◌≡◌, is_none, unwrap_or};
 ghost use Rattle.rounding.specs.Root.{root};
 ghost use Rattle.root_rounds.specs.Search.{first_candidate, round_of, Searched};
-ghost use Rattle.try_root.specs.Exports.{is_last, next_or, rooted};
-
-use root_rounds::Round;
+ghost use Rattle.try_root.specs.Exports.{rooted};
 
 // The first candidate for the root of n.
 #[unsafe(no_mangle)]
@@ -20,9 +18,9 @@ pub extern "C" fn try_root_first_candidate(n: u64) -> u32
 // One round of the search for the root of n, which tries c: whether it is the last. Where it is not, the next candidate goes into `next`.
 #[unsafe(no_mangle)]
 pub extern "C" fn try_root_round(n: u64, c: u32, next: &mut u32) -> bool
-    ensures { (result ≡ is_last (round_of n c)) × (next.new ≡ next_or next.old (round_of n c)) }
+    ensures { (result ≡ is_none (round_of n c)) × (next.new ≡ unwrap_or (round_of n c) next.old) }
 {
-    let Round::Next(after) = root_rounds::try_candidate(n, c) else {
+    let Some(after) = root_rounds::try_candidate(n, c) else {
         return true;
     };
     *next = after;

@@ -1,7 +1,4 @@
 -- The contents of an accepted record in the two arrays.
-use mathlib.Core.Path.{sym, ◌∙◌}
-use native.Mathlib.Omega.{arith}
-use Rattle.records.specs.Counted.{count_lines}
 use Rattle.records.proofs.Heads.{few_lines}
 use Rattle.records.proofs.Reading.{reads}
 use Rattle.records.proofs.read.Goals as goal

@@ -10,14 +10,14 @@ pub loop-next-init : goal.loop-next-init
 loop-next-init c = begun _ _ (omega arith) c.first_candidate-c.ensures
 
 pub returns-in_default : goal.returns-in_default
-returns-in_default c = ends (omega arith) c.loop-next.invariant (told_last _ _ (sym c.try_candidate.ensures ∙ c.in_default.is))
+returns-in_default c = rw c.from.ensures (ends (omega arith) c.loop-next.invariant (told_last _ _ (sym c.try_candidate.ensures ∙ c.in_default.is)))
 
 pub loop-next-smaller : goal.loop-next-smaller
 loop-next-smaller c =
-    let told = told_next _ _ _ (sym c.try_candidate.ensures ∙ c.in-Next.is) in
+    let told = told_next _ _ _ (sym c.try_candidate.ensures ∙ c.in-Some.is) in
     omega (arith, told.1, falls _ _ told.0)
 
 pub loop-next-preserved : goal.loop-next-preserved
 loop-next-preserved c =
-    let told = told_next _ _ _ (sym c.try_candidate.ensures ∙ c.in-Next.is) in
+    let told = told_next _ _ _ (sym c.try_candidate.ensures ∙ c.in-Some.is) in
     rw (← told.1) (again (omega arith) c.loop-next.invariant told.0)

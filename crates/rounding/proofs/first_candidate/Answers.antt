@@ -1,12 +1,21 @@
--- Each return is one case of `first_candidate`.
-use borrow.Author.Tests.{lt-ltb, le-ltb}
+-- The smaller of the two numbers is a case of `first_candidate`.
+use mathlib.Core.Path.{◌≡◌, refl}
+use mathlib.Core.Bool.{Bool, true, false, cond}
+use Prim.Native.Nat.{ℕ, ◌-◌, ◌^◌}
+use native.Mathlib.Omega.{arith}
+use Rattle.std.proofs.Common.{min}
+use borrow.Author.Tests.{ltb-true, ltb-false}
+use lib.Dec.{ltb}
 use Rattle.rounding.specs.Root.{next_candidate, first_candidate}
 use Rattle.rounding.proofs.first_candidate.Goals as goal
 
-pub returns-then-c-lt4294967296 : goal.returns-then-c-lt4294967296
-unfolding next_candidate first_candidate
-returns-then-c-lt4294967296 c = rw (lt-ltb _ _ c.if-c-lt4294967296.true)
+capped : (s : ℕ) → min s (2 ^ 32 - 1) ≡ cond (ltb s (2 ^ 32)) s (2 ^ 32 - 1)
+capped s = go (ltb s (2 ^ 32)) refl
+  where
+    go : (b : Bool) → ltb s (2 ^ 32) ≡ b → min s (2 ^ 32 - 1) ≡ cond b s (2 ^ 32 - 1)
+    go true e = omega (arith, ltb-true _ _ e)
+    go false e = omega (arith, ltb-false _ _ e)
 
-pub returns-else-c-lt4294967296 : goal.returns-else-c-lt4294967296
+pub returns : goal.returns
 unfolding next_candidate first_candidate
-returns-else-c-lt4294967296 c = rw (le-ltb _ _ c.if-c-lt4294967296.false)
+returns c = rw (c.min.ensures, c.from.ensures) (capped _)

@@ -1,6 +1,6 @@
 -- The loop keeps the four sums of the entries before i; the sums over the entries are those over all lines.
-use mathlib.Core.Path.{◌≡◌, refl, sym, ap, ◌∙◌}
-use Prim.Native.Nat.{ℕ, ◌<◌}
+use mathlib.Core.Path.{refl, sym, ap, ◌∙◌}
+use Prim.Native.Nat.{ℕ}
 use native.Mathlib.Omega.{arith}
 use Rattle.components.specs.Table.{superior, inferior, summation}
 use Rattle.components.specs.Composition.{sum_of}
@@ -8,22 +8,19 @@ use Rattle.components.proofs.Summing.{sums_small, next_sums, all_sums}
 use Rattle.records.specs.Format.{contents_in}
 use Rattle.records.proofs.Accepted.{acceptable}
 use Rattle.properties.specs.Chain.{combustion_place, metering_place, HmSuperior, HmInferior, M, S}
-use Rattle.properties.proofs.StepBounds.{combustion_place_lem, metering_place_lem}
 use Rattle.properties.proofs.Gas.{amount_is, over_entries}
 use Rattle.properties.proofs.sums.sums_of.Goals as goal
 
-pub add_to_sums-sums-requires : goal.add_to_sums-sums-requires
-add_to_sums-sums-requires c =
+pub add-requires : goal.add-requires
+add-requires c =
     let good = (acceptable c.args.accepted.now.bytes.now c.args.accepted.now.accepted).composition in
     let l = good.lines c.loop-i.i (omega (arith, rw c.entries-entries.ensures at c.len-i-end.ensures)) in
     let line = rw c.entries-entries.ensures at c.line.ensures in
-    let known : c.combustion_place-t.result < 4 = rw c.combustion_place-t.ensures (combustion_place_lem c.combustion.result) in
-    let known_k : c.metering_place-k.result < 3 = rw c.metering_place-k.ensures (metering_place_lem c.metering.result) in
-    record { in_table = (rw line l.0, rw line l.1, known, known_k); room = sums_small c.loop-i.invariant good }
+    record { in_table = (rw line l.0, rw line l.1); room = sums_small c.loop-i.invariant good }
 
 pub loop-i-preserved : goal.loop-i-preserved
 loop-i-preserved c =
-    let s = c.add_to_sums-sums.ensures in
+    let s = c.add.ensures in
     let l = rw c.entries-entries.ensures at c.line.ensures in
     let x = rw c.entries-entries.ensures at c.fraction.ensures in
     next_sums c.loop-i.invariant (acceptable c.args.accepted.now.bytes.now c.args.accepted.now.accepted).composition
@@ -36,8 +33,8 @@ returns c =
     let bs = c.args.accepted.now.bytes.now in
     let k = contents_in bs in
     let a = acceptable bs c.args.accepted.now.accepted in
-    let t = c.combustion_place-t.ensures ∙ ap combustion_place c.combustion.ensures in
-    let j = c.metering_place-k.ensures ∙ ap metering_place c.metering.ensures in
+    let t = c.combustion_of-combustion.ensures ∙ ap combustion_place c.combustion.ensures in
+    let j = c.metering_of-metering.ensures ∙ ap metering_place c.metering.ensures in
     let e = all_sums c.loop-i.invariant (omega (arith, rw c.entries-entries.ensures at c.len-i-end.ensures)) in
     record {
       superior = amount_is k a (ap superior t) _ e.0;

@@ -2,7 +2,7 @@
 use mathlib.Core.Path.{refl, sym, ◌∙◌}
 use native.Mathlib.Omega.{arith}
 use Rattle.records.specs.Format.{entries_at}
-use Rattle.records.proofs.EntryLaws.{none_written, next_written, all_written}
+use Rattle.records.proofs.EntryLaws.{none_written, next_written}
 use Rattle.records.proofs.format.put_entries.Goals as goal
 
 pub loop-k-init : goal.loop-k-init

@@ -1,5 +1,5 @@
 -- The loop keeps that both arrays are filled with the first k entries.
-use mathlib.Core.Path.{sym, ◌∙◌}
+use mathlib.Core.Path.{◌∙◌}
 use native.Mathlib.Omega.{arith}
 use Rattle.records.proofs.EntryLaws.{fill, full}
 use Rattle.records.proofs.format.read_entries.Goals as goal

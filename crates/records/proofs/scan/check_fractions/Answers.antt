@@ -17,7 +17,7 @@ returns-then-fraction-eq0 g c =
     let same = g.met.E.Entries.same c.args.entries.now in
     zero_here c.loop-k.invariant (omega (arith, c.len-k-end.ensures)) (omega (arith, c.len-k-end.ensures, same)) (sym c.fraction-fraction.ensures ∙ c.if-fraction-eq0.true)
 
-pub returns : goal.returns
-returns g c =
+pub returns-after-loop-k : goal.returns-after-loop-k
+returns-after-loop-k g c =
     let same = g.met.E.Entries.same c.args.entries.now in
     all_noted c.loop-k.invariant (omega (arith, c.len-k-end.ensures)) (omega (arith, c.len-k-end.ensures, same)) c.check.ensures

@@ -13,5 +13,5 @@ pub returns-then-line_breaks : goal.returns-then-line_breaks
 returns-then-line_breaks g c =
     breaks_here c.loop-k.invariant (omega (arith, c.len-k-end.ensures)) (rw c.line-line.ensures at (sym c.line_breaks.ensures ∙ c.if-line_breaks.true))
 
-pub returns : goal.returns
-returns g c = all_passed c.loop-k.invariant (omega (arith, c.len-k-end.ensures))
+pub returns-after-loop-k : goal.returns-after-loop-k
+returns-after-loop-k g c = all_passed c.loop-k.invariant (omega (arith, c.len-k-end.ensures))

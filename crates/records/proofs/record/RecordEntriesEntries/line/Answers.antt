@@ -1,7 +1,5 @@
 -- The line number stands where the record's entry begins.
 use native.Mathlib.Omega.{arith}
-use Rattle.std.proofs.Common.{ℕ, ◌≤◌}
-use Rattle.records.specs.Counted.{count_lines}
 use Rattle.records.proofs.EntryLaws.{line_here, within}
 use Rattle.records.proofs.record.RecordEntriesEntries.line.Goals as goal
 
