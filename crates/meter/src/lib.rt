@@ -156,6 +156,14 @@ impl StreamTotals {
             Energy::Inferior => self.inferior,
         }
     }
+
+    // The mean calorific value of an energy over the volume, in J/m³, or 18.
+    pub fn mean(self, energy: Energy) -> Result<CalorificValue, Refusal>
+        requires { SoundTotals self }
+        ensures { mean_meaning result ≡ mean_over (register_of energy self) self.volume }
+    {
+        self.register_of(energy).mean_over(self.volume)
+    }
 }
 
 impl Stream {
@@ -196,15 +204,6 @@ impl Stream {
         }
         self.totals = self.totals.added(gas.properties, volume);
         Ok(())
-    }
-
-    // The mean calorific value of an energy of what the stream has taken, in J/m³, or 18.
-    fn mean(&self, energy: Energy) -> Result<CalorificValue, Refusal>
-        ensures { mean_meaning result ≡ mean_over (register_of energy self.now.totals) self.now.totals.volume }
-    {
-        self.totals
-            .register_of(energy)
-            .mean_over(self.totals.volume)
     }
 }
 
@@ -252,6 +251,7 @@ impl Meter {
         ensures { mean_meaning result ≡ mean_for energy self.now stream }
     {
         check_stream(stream)?;
-        self.streams[stream].mean(energy)
+        let named = &self.streams[stream];
+        named.totals.mean(energy)
     }
 }

@@ -7,8 +7,8 @@ use native.Mathlib.Omega.{arith}
 use lib.Dec.{eqb}
 use lib.ListN.{length, length-set}
 use lib.Seq.{set-get_or}
-use Rattle.records.specs.declared.Verdict.{Verdict}
-use Rattle.records.specs.declared.Verdict.TheVariants.{Accepted, Refused}
+use Rattle.std.specs.Prelude.{Ok, Err}
+use Rattle.records.specs.Refusals.{Verdict}
 use Rattle.records.specs.Order.{Outcome, refused, first_of, decided, otherwise, mapped}
 use Rattle.records.specs.Answers.{meaning, Gives}
 use Rattle.records.proofs.OrderLaws.{mapped_decided, decided_refused}
@@ -62,8 +62,8 @@ both {t} {m} {m₁} {m₂} {cs} {ds} a b =
 
 -- a verdict beside another value
 meaning_of : {A B : Type 0} (v : Verdict) (x : A) (y : B) → meaning v y ≡ mapped (λ (z : A). y) (meaning v x)
-meaning_of Accepted x y = refl
-meaning_of (Refused n) x y = refl
+meaning_of (Ok u) x y = refl
+meaning_of (Err e) x y = refl
 
 module _ (m : Meter) (t : Tally) (h : Linked m t) where
   -- one stream is replaced on both sides
