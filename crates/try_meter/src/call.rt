@@ -1,0 +1,67 @@
+// The calls of the input.
+ghost use Rattle.std.specs.Prelude.{◌≡◌, length};
+ghost use Rattle.std.specs.Iterator.{at_most};
+
+#[derive(Clone, Copy)]
+pub enum Kind {
+    Fresh,
+    Analysis,
+    Metering,
+    Filling,
+    Reading,
+}
+
+// Every letter but four reads a stream.
+impl From<u8> for Kind {
+    ghost use Rattle.try_meter.specs.Calls.{kind_of};
+
+    ghost from_gives = { λ letter kind. kind ≡ kind_of letter };
+
+    fn from(letter: u8) -> Self {
+        match letter {
+            b'n' => Self::Fresh,
+            b'a' => Self::Analysis,
+            b'm' => Self::Metering,
+            b'f' => Self::Filling,
+            _ => Self::Reading,
+        }
+    }
+}
+
+// A call's kind, its stream and its volume, and the bytes of its title and of its record.
+#[derive(Clone, Copy)]
+pub struct Call<'a> {
+    pub kind: Kind,
+    pub stream: usize,
+    pub volume: u64,
+    pub title: &'a [u8],
+    pub bytes: &'a [u8],
+}
+
+// Every call of the bytes, up to one that they do not hold whole.
+#[derive(Drop)]
+pub struct Calls<'a>(pub &'a [u8]);
+
+impl<'a> Iterator for Calls<'a> {
+    type Item = Call<'a>;
+
+    ghost remaining = { λ calls. at_most (length calls.0.now) };
+
+    fn next(&mut self) -> Option<Call<'a>> {
+        let (letter, rest) = self.0.split_first()?;
+        let (title_length, rest) = rest.split_first_chunk::<2>()?;
+        let (record_length, rest) = rest.split_first_chunk::<2>()?;
+        let (stream, rest) = rest.split_first_chunk::<8>()?;
+        let (volume, rest) = rest.split_first_chunk::<8>()?;
+        let (title, rest) = rest.split_at_checked(usize::from(u16::from_le_bytes(*title_length)))?;
+        let (bytes, rest) = rest.split_at_checked(usize::from(u16::from_le_bytes(*record_length)))?;
+        self.0 = rest;
+        Some(Call {
+            kind: Kind::from(*letter),
+            stream: usize::from_le_bytes(*stream),
+            volume: u64::from_le_bytes(*volume),
+            title,
+            bytes,
+        })
+    }
+}
