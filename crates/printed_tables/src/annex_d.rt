@@ -59,6 +59,8 @@ struct Text {
 }
 
 impl Part for Text {
+    const NAME: &'static str = "annex D";
+
     ghost figures = { text_figures };
 
     ghost printed = { map (λ figure. figure.digits) FIGURES };

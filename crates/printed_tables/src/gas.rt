@@ -87,6 +87,8 @@ fn fraction(i: usize) -> u64
 pub struct TableD1;
 
 impl Part for TableD1 {
+    const NAME: &'static str = "annex D, table D.1";
+
     ghost use Rattle.printed_tables.specs.Parts.{table_d1_figures};
     ghost use Rattle.printed_tables.specs.TableD1.{row_figure};
     ghost use Rattle.printed_tables.specs.declared.table_d1.TheConstants.{FIGURES};

@@ -16,8 +16,8 @@ mod text;
 use std::io;
 
 fn print_comparisons(rt: &impl Print) -> io::Result<()> {
-    tables::print_comparison(rt, "table 5", &tables::Table5)?;
-    tables::print_comparison(rt, "table 4", &tables::Table4)?;
+    tables::print_comparison(rt, &tables::Table5)?;
+    tables::print_comparison(rt, &tables::Table4)?;
     annex_d::print_comparison(rt)
 }
 

@@ -8,6 +8,8 @@ use std::fmt::{Display, Formatter};
 
 // A part of the source. Its figures stand line after line, and are counted from 0.
 pub trait Part {
+    const NAME: &'static str;
+
     // how many figures, their digits as printed, and the k-th as calculated
     ghost figures: { ℕ };
 

@@ -5,11 +5,10 @@ use super::parts::Part;
 use std::fmt::{Display, Formatter};
 use std::{fmt, io};
 
-// Where a figure stands in the source.
+// Where a figure stands in its part of the source.
 #[derive(Clone, Copy)]
 pub enum Place {
     Cell {
-        table: &'static str,
         line: usize,
         value: &'static str,
         conditions: &'static str,
@@ -27,13 +26,12 @@ impl Display for Place {
     fn fmt<W: fmt::Write>(&self, f: &mut Formatter<W>) -> fmt::Result {
         match *self {
             Self::Cell {
-                table,
                 line,
                 value,
                 conditions,
-            } => write!(f, "{table}, line {line}, {value}, {conditions}"),
-            Self::Row { line, name } => write!(f, "annex D, table D.1, line {line}, {name}"),
-            Self::Text { name } => write!(f, "annex D, {name}"),
+            } => write!(f, "line {line}, {value}, {conditions}"),
+            Self::Row { line, name } => write!(f, "line {line}, {name}"),
+            Self::Text { name } => write!(f, "{name}"),
         }
     }
 }
@@ -73,7 +71,10 @@ pub fn print_differences<P: Part>(rt: &impl Print, part: &P) -> io::Result<()> {
             let place = part.place(k);
             let printed = Figure::new(printed, scale);
             let calculated = Figure::new(calculated, scale);
-            println!(rt; "{place}: printed {printed}, calculated {calculated}")?;
+            println!(rt;
+                "{}, {place}: printed {printed}, calculated {calculated}",
+                P::NAME
+            )?;
         }
     }
     Ok(())

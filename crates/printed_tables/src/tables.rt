@@ -53,6 +53,8 @@ impl Table4 {
 }
 
 impl Part for Table4 {
+    const NAME: &'static str = "table 4";
+
     ghost use Rattle.printed_tables.specs.Parts.{table_4_figures, table_4_figure};
     ghost use Rattle.printed_tables.specs.declared.table_4.TheConstants.{FIGURES};
 
@@ -80,7 +82,6 @@ impl Part for Table4 {
 
     fn place(&self, k: usize) -> Place {
         Place::Cell {
-            table: "table 4",
             line: k / 8 + 1,
             value: VALUES[k % 2],
             conditions: Self::TEMPERATURES[k % 8 / 2],
@@ -159,6 +160,8 @@ impl Table5 {
 }
 
 impl Part for Table5 {
+    const NAME: &'static str = "table 5";
+
     ghost use Rattle.printed_tables.specs.Parts.{table_5_figures, table_5_figure};
     ghost use Rattle.printed_tables.specs.declared.table_5.TheConstants.{FIGURES};
 
@@ -186,7 +189,6 @@ impl Part for Table5 {
 
     fn place(&self, k: usize) -> Place {
         Place::Cell {
-            table: "table 5",
             line: k / 12 + 1,
             value: VALUES[k % 2],
             conditions: Self::NAMES[k % 12 / 2],
@@ -196,7 +198,8 @@ impl Part for Table5 {
     ghost whole = { refl };
 }
 
-pub fn print_comparison<P: Part>(rt: &impl Print, name: &str, table: &P) -> io::Result<()> {
+pub fn print_comparison<P: Part>(rt: &impl Print, table: &P) -> io::Result<()> {
+    let name = P::NAME;
     print_differences(rt, table)?;
     println!(rt; "{name}: {}", count(Counts::new(), table))?;
     println!(rt; "not compared: the names of {name}; it has no lines 49 to 55")
