@@ -8,7 +8,10 @@
 
 mod trouble;
 
+ghost use Rattle.std.specs.Prelude.{◌≤◌, IfOk, vec_len};
+
 use properties::{Answer, PerKilogram, PerKilogramAnswer, Properties};
+use std::alloc::Allocator;
 use std::env::{Env, FillError};
 use std::fmt::{Display, Formatter};
 use std::io::{Input, Read};
@@ -89,11 +92,11 @@ fn asked_for(rt: &impl Env) -> Result<Asked, Trouble> {
     }
 }
 
-// Standard input up to its end, or the bytes that decide.
-fn read_record<R: Input + Alloc>(rt: &R) -> io::Result<Vec<u8, R::A>> {
-    let mut bytes = Vec::new(rt.alloc());
-    rt.reader().take(284).read_to_end(&mut bytes)?;
-    Ok(bytes)
+// What stands in the input up to its end, or the bytes that decide.
+fn read_record<R: Read + Drop, A: Allocator>(reader: R, alloc: A) -> io::Result<Vec<u8, A>>
+    ensures { IfOk result (λ bytes. vec_len bytes ≤ 284) }
+{
+    reader.bytes().take(284).try_collect(alloc)
 }
 
 fn print_asked(rt: &impl Print, asked: Asked, bytes: &[u8]) -> io::Result<()> {
@@ -105,7 +108,7 @@ fn print_asked(rt: &impl Print, asked: Asked, bytes: &[u8]) -> io::Result<()> {
 
 fn run<R: Env + Input + Print + Alloc>(rt: &R) -> Result<(), Trouble> {
     let asked = asked_for(rt)?;
-    let bytes = read_record(rt).map_err(Trouble::Input)?;
+    let bytes = read_record(rt.reader(), rt.alloc()).map_err(Trouble::Input)?;
     print_asked(rt, asked, &bytes).map_err(Trouble::Output)
 }
 

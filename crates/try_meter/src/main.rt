@@ -10,7 +10,7 @@
 mod call;
 mod printed;
 
-ghost use Rattle.std.specs.Prelude.{◌≡◌};
+ghost use Rattle.std.specs.Prelude.{◌≡◌, ◌≤◌, IfOk, vec_len};
 ghost use Rattle.meter.specs.State.{Sound};
 ghost use Rattle.meter.specs.Calls.{after_analysis, after_metering};
 ghost use Rattle.try_meter.specs.Calls.{filled_by, after_call};
@@ -18,6 +18,7 @@ ghost use Rattle.try_meter.specs.Calls.{filled_by, after_call};
 use call::{Call, Calls, Kind};
 use meter::Meter;
 use printed::{Accepted, Answer, Mean, Totals};
+use std::alloc::{AllocError, Allocator};
 use std::io;
 use std::io::{Input, Read};
 
@@ -120,9 +121,17 @@ fn run(rt: &impl Print, input: &[u8]) -> io::Result<()> {
     Ok(())
 }
 
-// Its input is what it can read of standard input, up to 2,048 bytes. It ends alike where a write fails.
+// What can be read of the input, up to 2,048 bytes.
+fn read_input<R: Read + Drop, A: Allocator>(reader: R, alloc: A) -> Result<Vec<u8, A>, AllocError>
+    ensures { IfOk result (λ bytes. vec_len bytes ≤ 2048) }
+{
+    let read = reader.bytes().take(2048);
+    read.map_while(Result::ok).collect(alloc)
+}
+
+// It ends alike where memory is short or a write fails.
 fn main(rt: HostRuntime) {
-    let mut input = Vec::new(rt.alloc());
-    let _ = rt.reader().take(2048).read_to_end(&mut input);
-    let _ = run(&rt, &input);
+    if let Ok(input) = read_input(rt.reader(), rt.alloc()) {
+        let _ = run(&rt, &input);
+    }
 }
