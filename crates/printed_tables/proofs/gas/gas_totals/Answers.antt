@@ -32,4 +32,5 @@ unfolding sum_to total
 returns c =
     let e : c.loop-i.i ≡ 8 = omega arith in
     let inv = c.loop-i.invariant in
-    rw (c.sums-sums.ensures.superior, c.sums-sums.ensures.mass, c.unsigned_abs-s.ensures.value, s_read _ c.sums-sums.ensures.summation, inv.1, inv.2, inv.3, e)
+    let sums = c.sums-sums.ensures in
+    rw (sums.superior, sums.mass, c.unsigned_abs-s.ensures.value, s_read _ sums.summation, inv.1, inv.2, inv.3, e)

@@ -3,7 +3,7 @@ use Rattle.std.proofs.Common.{◌+◌, ◌*◌, ◌<◌, ◌≤◌, arith}
 use Rattle.components.specs.Bounds.{heat_by_mass}
 use Rattle.components.proofs.Entries.{entry_by_mass}
 use Rattle.printed_tables.proofs.NumberLaws.{mass_above, product_high, product_fits}
-use Rattle.printed_tables.proofs.tables.figure_per_kilogram.Goals as goal
+use Rattle.printed_tables.proofs.tables.Table4.figure.Goals as goal
 
 module _ (c : goal.After-number-m) where
   some : 0 < 1000000 * c.number-m.result
