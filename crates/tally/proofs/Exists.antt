@@ -7,7 +7,8 @@ use denote.Ref.{Bor, MutBor}
 use Rattle.records.specs.Order.{Order, first_of, decided, otherwise}
 use Rattle.records.specs.Refusals.{Verdict}
 use Rattle.records.specs.Answers.{Gives}
-use Rattle.properties.specs.declared.quantities.CalorificValue.{CalorificValue}
+use Rattle.properties.specs.declared.quantities.Quantity.{Quantity}
+use Rattle.properties.specs.Quantities.{calorific_bound}
 use Rattle.meter.specs.declared.Meter.{Meter}
 use Rattle.meter.specs.declared.StreamTotals.{StreamTotals}
 use Rattle.meter.specs.State.{fresh_meter, stream_at, with_stream}
@@ -47,7 +48,7 @@ pub mean_means : (e : Energy) (m : Meter) (k : ℕ) → mean_meaning (mean_with 
 unfolding mean_with
 mean_means e m k =
     let s = stream_at m k in
-    answered_by (λ (h : CalorificValue). h.value) (record { value = mean_in (register_of e s.totals) s.totals.volume }) (mean_order k s) refl
+    answered_by (λ (h : Quantity calorific_bound). h.value) (record { value = mean_in (register_of e s.totals) s.totals.volume }) (mean_order k s) refl
 
 abbrev pub verdict_by : Order → Verdict
 verdict_by o = verdict_with (first_of o)

@@ -7,7 +7,8 @@ use Rattle.records.specs.declared.refusal.Refusal.{Refusal}
 use Rattle.records.specs.Order.{mapped}
 use Rattle.records.specs.Refusals.{Verdict}
 use Rattle.records.specs.Answers.{meaning}
-use Rattle.properties.specs.declared.quantities.CalorificValue.{CalorificValue}
+use Rattle.properties.specs.declared.quantities.Quantity.{Quantity}
+use Rattle.properties.specs.Quantities.{calorific_bound}
 use Rattle.meter.specs.declared.Meter.{Meter}
 use Rattle.meter.specs.declared.Energy.TheVariants as energy
 use Rattle.meter.specs.declared.Energy.{Energy as MeterEnergy}
@@ -26,7 +27,7 @@ abbrev pub TotalsAnswer : Type 0
 TotalsAnswer = Result StreamTotals Refusal
 
 abbrev pub MeanAnswer : Type 0
-MeanAnswer = Result CalorificValue Refusal
+MeanAnswer = Result (Quantity calorific_bound) Refusal
 
 -- an energy of a stream as the meter names it
 abbrev pub named : Energy → MeterEnergy
