@@ -1,16 +1,20 @@
 -- What stands in a row that holds a stream, and the row after each call that may change it.
 use mathlib.Core.Path.{◌≡◌, refl, sym, ap, ◌∙◌}
-use mathlib.Core.Bool.{Bool, true, false, not, ◌&&◌, ◌||◌, true≢false}
+use mathlib.Core.Bool.{Bool, true, false, true≢false}
 use mathlib.Core.List.{List}
 use Prim.Native.Nat.{ℕ, ◌+◌, ◌≤◌, ◌<◌}
 use native.Mathlib.Omega.{arith}
 use borrow.Author.Tests.{lt-ltb, le-ltb}
 use lib.Dec.{eqb}
 use lib.ListN.{get_or}
-use Rattle.records.specs.Order.{Order, first_of}
+use Rattle.std.specs.Result.{IsErrAnd}
+use Rattle.records.specs.declared.refusal.Refusal.{Refusal}
+use Rattle.records.specs.Refusals.{Verdict, number, number_in}
+use Rattle.records.specs.Answers.{Returns}
+use Rattle.records.specs.Order.{Order, first_of, mapped}
 use Rattle.records.specs.Format.{combustion_in, metering_in, contents_in}
 use Rattle.records.specs.Conditions.{record_order}
-use Rattle.records.proofs.OrderLaws.{stops, passes}
+use Rattle.records.proofs.OrderLaws.{number_passed, some_number, stops, passes}
 use Rattle.properties.specs.declared.Properties.{Properties}
 use Rattle.properties.specs.Chain.{Six, six_of}
 use Rattle.properties.specs.Answers.{numbers, quantities}
@@ -21,13 +25,11 @@ use Rattle.meter.specs.declared.StreamTotals.{StreamTotals}
 use Rattle.meter.specs.declared.Stream.{Stream}
 use Rattle.meter.specs.State.{most_volume, most_total, SoundTotals, SoundAnalysis, SoundStream}
 use Rattle.meter.specs.Conditions.{pair_differs, no_analysis, pair_order, stream_analysis_order, stream_metering_order}
-use Rattle.meter.specs.Calls.{with_volume, added, analysed, metered}
+use Rattle.meter.specs.Calls.{with_volume, added, analysed, metered, stream_analysis}
 use Rattle.lent_meter.specs.Words.{packed_totals, gas_words, analysis_words, packed_stream, six_in, totals_in, with_gas_words, with_totals_words}
 use Rattle.lent_meter.specs.Lent.{LentRow}
-
--- 14, from the words of a row
-abbrev pub words_differ : List ℕ → ℕ → ℕ → Bool
-words_differ row c m = not (eqb (get_or row 0 0) 0) && (not (eqb (get_or row 1 0) c) || not (eqb (get_or row 2 0) m))
+use Rattle.lent_meter.specs.Check.{words_differ}
+use Rattle.lent_meter.proofs.Outcomes.{number_refuses}
 
 -- the words of an analysis, for each case of it
 module _ (t : StreamTotals) where
@@ -98,8 +100,12 @@ module _ {row : List ℕ} (s : Stream) (holds : row ≡ packed_stream s) (bs : L
   abbrev fourteen : Order
   fourteen = pair_order (pair_differs s.analysis (combustion_in bs) (metering_in bs))
 
-  pub record_refused : {n : ℕ} → n ≡ first_of (record_order bs) → (n ≡ 0 → ⊥) → n ≡ first_of (stream_analysis_order bs s)
-  record_refused = stops (record_order bs) fourteen
+  pub record_refused : (v : Verdict) (e : Refusal) → IsErrAnd v (λ y. y ≡ e) → number e ≡ first_of (record_order bs) →
+      Returns (mapped packed_stream (stream_analysis s bs)) row (number_in v) row
+  record_refused v e is h =
+      let passed = number_passed v e is in
+      let some : number_in v ≡ 0 → ⊥ = λ z. some_number e (sym passed ∙ z) in
+      number_refuses packed_stream (analysed s bs) row (stops (record_order bs) fourteen (passed ∙ h) some) some refl
 
   module _ {c m : ℕ} (first : c ≡ combustion_in bs) (second : m ≡ metering_in bs) where
     pub record_accepted : first_of (record_order bs) ≡ 0 → {b : Bool} → words_differ row c m ≡ b → first_of (pair_order b) ≡ first_of (stream_analysis_order bs s)

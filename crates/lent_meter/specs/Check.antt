@@ -1,5 +1,5 @@
 -- What a test of words tells.
-use Rattle.std.specs.Prelude.{◌≡◌, Bool, true, ◌&&◌, ◌||◌, ℕ, ◌%◌, ◌^◌, ◌<◌, eqb, leb, ltb}
+use Rattle.std.specs.Prelude.{◌≡◌, Bool, true, not, ◌&&◌, ◌||◌, List, ℕ, ◌%◌, ◌^◌, ◌<◌, eqb, leb, ltb, get_or}
 use Rattle.properties.specs.Chain.{Six}
 use Rattle.properties.specs.Bounds.{compression_low, calorific_low, density_low, relative_low, wobbe_low}
 use Rattle.properties.specs.Quantities.{compression_bound, calorific_bound, density_bound, relative_bound, wobbe_bound}
@@ -33,3 +33,7 @@ pub record RegisterUnit (u : ℕ) : Type 0 where
   pub some : 0 < u
   pub small : u < 2 ^ 62
   pub parts : u % 1000000 ≡ 0
+
+-- 14, from the words of a row
+abbrev pub words_differ : List ℕ → ℕ → ℕ → Bool
+words_differ row c m = not (eqb (get_or row 0 0) 0) && (not (eqb (get_or row 1 0) c) || not (eqb (get_or row 2 0) m))

@@ -34,7 +34,11 @@ pub record Leaves (k : ℕ) (before : List (List ℕ)) (number : ℕ) (after : L
 abbrev pub OnReading : {A B : Type 0} → (A → B) → (Meter → Outcome A) → List (List ℕ) → B → ℕ → B → Type 0
 OnReading shown call words before number after = (m : Meter) → Sound m → words ≡ packed m → Returns (mapped shown (call m)) before number after
 
--- the same on a row: the calls on a stream, where 13 does not hold
+-- what a reading answers: of every meter that the words hold, what the call gives
+abbrev pub OnMeter : {A : Type 0} → (Meter → Outcome A) → List (List ℕ) → Outcome A → Type 0
+OnMeter call words answer = (m : Meter) → Sound m → words ≡ packed m → answer ≡ call m
+
+-- a call that may change a stream, on a row, where 13 does not hold
 abbrev pub OnRow : (Stream → Outcome Stream) → List ℕ → ℕ → List ℕ → Type 0
 OnRow call before number after = (s : Stream) → SoundStream s → before ≡ packed_stream s → Returns (mapped packed_stream (call s)) before number after
 

@@ -1,26 +1,27 @@
 // The meter of document 01 in words that the caller lends and a call changes in place, so that firmware in C or Rust can call it and keep
-// it. A row of words holds a stream. Each call on a stream tests 13 and works on the stream's row alone; it gives 0, or document 01's
-// number, and a refusal leaves all that was lent as it was.
+// it. A row of words holds a stream. Each call on a stream tests 13 and works on the stream's row alone; a refusal leaves all that was
+// lent as it was.
 #![tactic(auto)]
 
 mod held;
 mod words;
 
-ghost use Rattle.std.specs.Prelude.{◌≡◌, ℕ};
-ghost use Rattle.records.specs.Order.{mapped};
-ghost use Rattle.records.specs.Answers.{Returns};
+ghost use Rattle.std.specs.Prelude.{◌≡◌};
+ghost use Rattle.records.specs.Refusals.{number_in};
 ghost use Rattle.meter.specs.declared.Meter.{Meter};
 ghost use Rattle.meter.specs.declared.Stream.{Stream};
 ghost use Rattle.meter.specs.State.{fresh_meter};
-ghost use Rattle.meter.specs.Calls.{stream_analysis, stream_metering, analysis_of, metering_of, totals_of, mean_of, mean_inferior_of};
-ghost use Rattle.meter.specs.Answers.{mean_meaning};
-ghost use Rattle.lent_meter.specs.Words.{packed, packed_totals};
-ghost use Rattle.lent_meter.specs.Lent.{Lent, LentRow, OnWords, Leaves, OnReading, OnRow, LeavesRow};
+ghost use Rattle.meter.specs.Calls.{stream_analysis, stream_metering, analysis_of, metering_of, totals_of, mean_for};
+ghost use Rattle.meter.specs.Answers.{totals_meaning, mean_meaning};
+ghost use Rattle.lent_meter.specs.Words.{packed};
+ghost use Rattle.lent_meter.specs.Lent.{Lent, LentRow, OnWords, Leaves, OnMeter, OnRow, LeavesRow};
 ghost use Rattle.lent_meter.specs.Check.{Tells};
 
-use meter::MeanAnswer;
-use properties::sums;
+use meter::{Energy, Gas, Pair, StreamTotals};
+use properties::quantities::CalorificValue;
+use records::{Record, Refusal};
 use words::Row;
+pub use words::totals_words;
 
 // Streams of a meter.
 const STREAMS: usize = 16;
@@ -41,138 +42,77 @@ pub fn check(words: &Words) -> bool
     held::each_holds(words)
 }
 
-// A byte as a word.
-fn wide(byte: u8) -> u64
-    ensures { result ≡ byte }
+// The row with the record's gas in force; or the record's refusal, or 14.
+fn analysis_row(row: &mut Row, bytes: &[u8]) -> Result<(), Refusal>
+    ensures on_row { OnRow (λ (s : Stream). stream_analysis s bytes.now) row.old (number_in result) row.new }
+    ensures leaves_row { LeavesRow row.old (number_in result) row.new }
 {
-    byte as u64
-}
-
-// The record's number, 14, or the row with the record's properties in force.
-fn analysis_row(row: &mut Row, bytes: &[u8]) -> u8
-    ensures on_row { OnRow (λ (s : Stream). stream_analysis s bytes.now) row.old result row.new }
-    ensures leaves_row { LeavesRow row.old result row.new }
-{
-    let refusal = records::refusal(bytes);
-    if refusal != 0 {
-        return refusal;
+    let accepted = Record::new(bytes)?;
+    let pair = Pair {
+        combustion: accepted.combustion(),
+        metering: accepted.metering(),
+    };
+    if words::pair_differs(row, pair) {
+        return Err(Refusal::PairDiffers);
     }
-    let combustion = wide(records::combustion_in(bytes));
-    let metered_at = records::metering_in(bytes);
-    let metering = wide(metered_at);
-    let differs = (row[words::COMBUSTION] != combustion) | (row[words::METERING] != metering);
-    if (row[words::ANALYSED] != 0) & differs {
-        return 14;
-    }
-    let sums = sums::sums_of(bytes);
-    let properties = properties::properties_from(
-        sums.superior,
-        sums.inferior,
-        sums.mass,
-        sums.summation,
-        metered_at,
-    );
-    words::put_gas(row, combustion, metering, properties);
-    0
+    let properties = properties::properties_in(&accepted);
+    words::put_gas(row, Gas { pair, properties });
+    Ok(())
 }
 
 // The properties of a record come into force on a stream.
-pub fn analysis(words: &mut Words, stream: usize, bytes: &[u8]) -> u8
-    ensures on_words { OnWords (λ (m : Meter). analysis_of m stream bytes.now) words.old result words.new }
-    ensures leaves { Leaves stream words.old result words.new }
+pub fn analysis(words: &mut Words, stream: usize, bytes: &[u8]) -> Result<(), Refusal>
+    ensures on_words { OnWords (λ (m : Meter). analysis_of m stream bytes.now) words.old (number_in result) words.new }
+    ensures leaves { Leaves stream words.old (number_in result) words.new }
 {
-    if meter::LAST_STREAM < stream {
-        return 13;
-    }
+    meter::check_stream(stream)?;
     analysis_row(&mut words[stream], bytes)
 }
 
-// 15, 16, 17, or the row with the volume added.
-fn metering_row(row: &mut Row, volume: u64) -> u8
+// The row with the volume added; or 15, 16 or 17.
+fn metering_row(row: &mut Row, volume: u64) -> Result<(), Refusal>
     requires { LentRow row.old }
-    ensures on_row { OnRow (λ (s : Stream). stream_metering s volume) row.old result row.new }
-    ensures leaves_row { LeavesRow row.old result row.new }
+    ensures on_row { OnRow (λ (s : Stream). stream_metering s volume) row.old (number_in result) row.new }
+    ensures leaves_row { LeavesRow row.old (number_in result) row.new }
 {
     if meter::MOST_VOLUME < volume {
-        return 15;
+        return Err(Refusal::VolumeAbove);
     }
     if row[words::ANALYSED] == 0 {
-        return 16;
+        return Err(Refusal::NoAnalysis);
     }
     let totals = words::totals_in(row);
     if meter::MOST_TOTAL < totals.volume + volume {
-        return 17;
+        return Err(Refusal::TotalPasses);
     }
     let properties = words::properties_in(row);
     words::put_totals(row, totals.added(properties, volume));
-    0
+    Ok(())
 }
 
-// A stream takes a volume, in dm³.
-pub fn metering(words: &mut Words, stream: usize, volume: u64) -> u8
+// A stream takes a volume, in dm³. C lends plain words, so that they hold a meter stands in the contract, and not in a type.
+pub fn metering(words: &mut Words, stream: usize, volume: u64) -> Result<(), Refusal>
     requires { Lent words.old }
-    ensures on_words { OnWords (λ (m : Meter). metering_of m stream volume) words.old result words.new }
-    ensures leaves { Leaves stream words.old result words.new }
+    ensures on_words { OnWords (λ (m : Meter). metering_of m stream volume) words.old (number_in result) words.new }
+    ensures leaves { Leaves stream words.old (number_in result) words.new }
 {
-    if meter::LAST_STREAM < stream {
-        return 13;
-    }
+    meter::check_stream(stream)?;
     metering_row(&mut words[stream], volume)
 }
 
 // The volume, the energies and the mass of a stream.
-pub fn totals(words: &Words, stream: usize, out: &mut [u64; 7]) -> u8
-    ensures { OnReading packed_totals (λ (m : Meter). totals_of m stream) words.now out.old result out.new }
+pub fn totals(words: &Words, stream: usize) -> Result<StreamTotals, Refusal>
+    ensures { OnMeter (λ (m : Meter). totals_of m stream) words.now (totals_meaning result) }
 {
-    if meter::LAST_STREAM < stream {
-        return 13;
-    }
-    let found = words::totals_in(&words[stream]);
-    *out = [
-        found.volume,
-        found.superior.whole,
-        found.superior.rest,
-        found.inferior.whole,
-        found.inferior.rest,
-        found.mass.whole,
-        found.mass.rest,
-    ];
-    0
+    meter::check_stream(stream)?;
+    Ok(words::totals_in(&words[stream]))
 }
 
-// The number of an answer, and its mean into lent memory.
-fn give(answer: MeanAnswer, out: &mut u64) -> u8
-    ensures { Returns (mapped (λ (h : ℕ). h) (mean_meaning answer)) out.old result out.new }
-{
-    match answer {
-        MeanAnswer::Refused(number) => number,
-        MeanAnswer::Accepted(h) => {
-            *out = h.value();
-            0
-        }
-    }
-}
-
-// The mean superior calorific value of what a stream has taken, in J/m³.
-pub fn mean(words: &Words, stream: usize, out: &mut u64) -> u8
+// The mean calorific value of an energy of what a stream has taken, in J/m³.
+pub fn mean(words: &Words, stream: usize, energy: Energy) -> Result<CalorificValue, Refusal>
     requires { Lent words.now }
-    ensures { OnReading (λ (h : ℕ). h) (λ (m : Meter). mean_of m stream) words.now out.old result out.new }
+    ensures { OnMeter (λ (m : Meter). mean_for energy m stream) words.now (mean_meaning result) }
 {
-    if meter::LAST_STREAM < stream {
-        return 13;
-    }
-    let found = words::totals_in(&words[stream]);
-    give(found.superior.mean_over(found.volume), out)
-}
-
-// The mean inferior calorific value of what a stream has taken, in J/m³.
-pub fn mean_inferior(words: &Words, stream: usize, out: &mut u64) -> u8
-    requires { Lent words.now }
-    ensures { OnReading (λ (h : ℕ). h) (λ (m : Meter). mean_inferior_of m stream) words.now out.old result out.new }
-{
-    if meter::LAST_STREAM < stream {
-        return 13;
-    }
-    let found = words::totals_in(&words[stream]);
-    give(found.inferior.mean_over(found.volume), out)
+    let found = totals(words, stream)?;
+    found.register_of(energy).mean_over(found.volume)
 }

@@ -2,15 +2,16 @@
 ghost use Rattle.std.specs.Prelude.{◌≡◌};
 ghost use Rattle.properties.specs.Answers.{numbers};
 ghost use Rattle.properties.specs.Quantities.{Bounded};
-ghost use Rattle.lent_meter.specs.Words.{totals_in, six_in, with_gas_words, with_totals_words};
+ghost use Rattle.lent_meter.specs.Words.{packed_totals, totals_in, six_in, with_gas_words, with_totals_words};
+ghost use Rattle.lent_meter.specs.Check.{words_differ};
 
-use meter::{Register, StreamTotals};
+use meter::{Gas, Pair, Register, StreamTotals};
 use properties::Properties;
 use properties::quantities::{
     CalorificValue, CompressionFactor, Density, RelativeDensity, WobbeIndex,
 };
 
-// Words of a stream.
+// Words of a stream. C lends an array of them, so each has its place by number.
 pub const WORDS: usize = 16;
 // The words in their order: 1 where there is an analysis, and 0 where there is none;
 pub const ANALYSED: usize = 0;
@@ -68,17 +69,26 @@ pub fn totals_in(row: &Row) -> StreamTotals
     }
 }
 
+// Totals as words.
+pub fn totals_words(totals: StreamTotals) -> [u64; 7]
+    ensures { result ≡ packed_totals totals }
+{
+    [
+        totals.volume,
+        totals.superior.whole,
+        totals.superior.rest,
+        totals.inferior.whole,
+        totals.inferior.rest,
+        totals.mass.whole,
+        totals.mass.rest,
+    ]
+}
+
 // The row with other totals.
 pub fn put_totals(row: &mut Row, totals: StreamTotals)
     ensures { row.new ≡ with_totals_words row.old totals }
 {
-    row[VOLUME] = totals.volume;
-    row[SUPERIOR] = totals.superior.whole;
-    row[SUPERIOR_REST] = totals.superior.rest;
-    row[INFERIOR] = totals.inferior.whole;
-    row[INFERIOR_REST] = totals.inferior.rest;
-    row[MASS] = totals.mass.whole;
-    row[MASS_REST] = totals.mass.rest;
+    row[VOLUME..].copy_from_slice(&totals_words(totals));
 }
 
 // The properties in a row.
@@ -96,13 +106,22 @@ pub fn properties_in(row: &Row) -> Properties
     }
 }
 
-// The row with a gas in force, its totals as they were.
-pub fn put_gas(row: &mut Row, combustion: u64, metering: u64, p: Properties)
-    ensures { row.new ≡ with_gas_words row.old combustion metering (numbers p) }
+// Whether a row has an analysis whose pair is another one.
+pub fn pair_differs(row: &Row, pair: Pair) -> bool
+    ensures { result ≡ words_differ row.now pair.combustion pair.metering }
 {
+    let words = (row[COMBUSTION], row[METERING]);
+    (row[ANALYSED] != 0) & (words != (u64::from(pair.combustion), u64::from(pair.metering)))
+}
+
+// The row with a gas in force, its totals as they were.
+pub fn put_gas(row: &mut Row, gas: Gas)
+    ensures { row.new ≡ with_gas_words row.old gas.pair.combustion gas.pair.metering (numbers gas.properties) }
+{
+    let p = gas.properties;
     row[ANALYSED] = 1;
-    row[COMBUSTION] = combustion;
-    row[METERING] = metering;
+    row[COMBUSTION] = u64::from(gas.pair.combustion);
+    row[METERING] = u64::from(gas.pair.metering);
     row[Z] = p.z.value();
     row[HS] = p.hs.value();
     row[HI] = p.hi.value();

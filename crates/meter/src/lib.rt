@@ -52,7 +52,7 @@ pub enum Energy {
 }
 
 // An amount in two parts: of energy whole MJ and a rest below 10^9 mJ, of mass whole kg and a rest below 10^11 of 10^-11 kg.
-#[derive(Clone, Copy, Default)]
+#[derive(Clone, Copy, Default, PartialEq, Eq, PartialOrd, Ord)]
 pub struct Register {
     pub whole: u64,
     pub rest: u64,
@@ -148,7 +148,7 @@ impl StreamTotals {
     }
 
     // The register of an energy.
-    fn register_of(self, energy: Energy) -> Register
+    pub fn register_of(self, energy: Energy) -> Register
         ensures { result ≡ register_of energy self }
     {
         match energy {
