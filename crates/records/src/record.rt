@@ -23,7 +23,7 @@ impl Head<'_> {
     pub fn has_mark(&self) -> bool
         ensures { result ≡ has_mark self.now.bytes.now }
     {
-        self.bytes[0] == b'G' && self.bytes[1] == b'C' && self.bytes[2] == b'R'
+        matches!(self.bytes, [b'G', b'C', b'R', ..])
     }
 
     pub fn version(&self) -> u16
