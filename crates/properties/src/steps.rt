@@ -85,6 +85,7 @@ pub fn ideal_relative_density(m: u64, air: u64) -> u64
 }
 
 // The index of a calorific value and a relative density, as a number.
+#[tactic(auto, using(crate::proofs::StepBounds::root_low_lem))]
 pub fn index(hs: u64, d: u64) -> u64
     requires { (hs ≤ calorific_bound) × (relative_low ≤ d) × (d ≤ relative_bound) }
     ensures { result ≡ wobbe hs (root_of d) }
@@ -94,6 +95,7 @@ pub fn index(hs: u64, d: u64) -> u64
 }
 
 // 6. The Wobbe index.
+#[tactic(auto, using(crate::proofs::StepBounds::wobbe_high))]
 pub fn wobbe_index(hs: CalorificValue, d: RelativeDensity) -> WobbeIndex
     requires { (hs.value ≤ calorific_high) × (relative_low ≤ d.value) × (d.value ≤ relative_bound) }
     ensures { result.value ≡ wobbe hs.value (root_of d.value) }
@@ -102,6 +104,7 @@ pub fn wobbe_index(hs: CalorificValue, d: RelativeDensity) -> WobbeIndex
 }
 
 // A calorific value per kilogram, from Hm and M.
+#[tactic(auto, using(crate::proofs::StepBounds::per_kilogram_high))]
 pub fn per_kilogram(hm: u64, m: u64) -> MassCalorificValue
     requires { (hm ≤ any_heat) × (0 < m) × (hm ≤ heat_by_mass * m) }
     ensures { result.value ≡ per_kilogram hm m }
@@ -113,6 +116,7 @@ pub fn per_kilogram(hm: u64, m: u64) -> MassCalorificValue
 pub const AIR_DISTANCE: u64 = 5;
 
 // d times the density of air, unit 10^-8 kg/m³, from the metering temperature in °C.
+#[tactic(auto, using(crate::proofs::StepBounds::air_density_lem))]
 pub fn by_air(metering: u8, d: u64) -> u64
     requires { d ≤ relative_bound }
     ensures { result ≡ by_air metering d }

@@ -12,15 +12,15 @@ use Rattle.properties.specs.Quantities.{calorific_bound, density_bound, relative
 use Rattle.properties.specs.Chain.{temperature, divisor, air_factor, compression, tenth, ideal_calorific, ideal_density, ideal_relative, T, D, S9, Z, Hs, Hi, rho, A, G, d, r, W}
 use Rattle.properties.specs.Accepted.{Summed}
 use Rattle.properties.proofs.StepBounds.{compression_high, divisor_low_lem, air_low_lem, air_high_lem, ideal_calorific_high_lem, ideal_density_high, ideal_relative_high_lem, ideal_relative_low, real_high, real_low}
-use Rattle.properties.proofs.Gas.{superior_high, inferior_high, mass_low_lem, mass_high_lem, summation_high_lem, summation_word, Z-low}
+use Rattle.properties.proofs.Gas.{superior_bounds, inferior_bounds, mass_low_lem, mass_high_lem, summation_high_lem, summation_word, Z-low}
 use Rattle.properties.proofs.properties_from.Goals as goal
 
 module _ {superior inferior mass metering : ℕ} {summation : ℤ} (q : Summed superior inferior mass summation metering) where
   superior_most : superior ≤ heat_high
-  superior_most = rw q.sums.superior_is (superior_high q.gas q.acceptable)
+  superior_most = rw q.sums.superior_is (superior_bounds q.gas q.acceptable).1
 
   inferior_most : inferior ≤ heat_high
-  inferior_most = rw q.sums.inferior_is (inferior_high q.gas q.acceptable)
+  inferior_most = rw q.sums.inferior_is (inferior_bounds q.gas q.acceptable).1
 
   mass_least : mass_low ≤ mass
   mass_least = rw q.sums.mass_is (mass_low_lem q.gas q.acceptable)

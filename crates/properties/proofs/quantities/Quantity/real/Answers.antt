@@ -1,5 +1,5 @@
 -- A number that is at most the ceiling times Z gives a quotient that is at most the ceiling.
-use Prim.Native.Nat.{ℕ, ◌*◌, ◌^◌}
+use Prim.Native.Nat.{◌*◌, ◌^◌}
 use native.Mathlib.Omega.{arith}
 use Rattle.rounding.proofs.NearLaws.{near_half, at_most}
 use Rattle.properties.proofs.quantities.Quantity.real.Goals as goal
