@@ -62,6 +62,10 @@ pub struct Calls<'a>(pub &'a [u8]);
 impl<'a> Iterator for Calls<'a> {
     type Item = Call<'a>;
 
+    ghost use Rattle.try_meter.specs.Calls.{IsFirst};
+
+    ghost next_gives = { λ calls call after. IfSome call (λ first. IsFirst calls.0.now first after.0.now) };
+
     ghost remaining = { λ calls. at_most (length calls.0.now) };
 
     fn next(&mut self) -> Option<Call<'a>> {
