@@ -5,11 +5,12 @@ ghost use Rattle.properties.specs.Quantities.{Bounded};
 ghost use Rattle.lent_meter.specs.Words.{packed_totals, totals_in, six_in, with_gas_words, with_totals_words};
 ghost use Rattle.lent_meter.specs.Check.{words_differ};
 
-use meter::{Gas, Pair, Register, StreamTotals};
+use meter::{Gas, Register, StreamTotals};
 use properties::Properties;
 use properties::quantities::{
     CalorificValue, CompressionFactor, Density, RelativeDensity, WobbeIndex,
 };
+use records::Pair;
 
 // Words of a stream. C lends an array of them, so each has its place by number.
 pub const WORDS: usize = 16;
