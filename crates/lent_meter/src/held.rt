@@ -16,6 +16,7 @@ use properties::quantities::{
     CalorificValue, CompressionFactor, Density, RelativeDensity, WobbeIndex,
 };
 use properties::steps;
+use records::Pair;
 
 // Two digits to this base make every volume total, and the unit of every register is a multiple of it.
 const BASE: u64 = 1000000;
@@ -42,7 +43,11 @@ fn pair_holds(combustion: u64, metering: u64) -> bool
     if 255 < metering {
         return false;
     }
-    records::pair_permitted(combustion as u8, metering as u8)
+    let pair = Pair {
+        combustion: combustion as u8,
+        metering: metering as u8,
+    };
+    pair.is_permitted()
 }
 
 // Whether a value lies between two others, both included.

@@ -16,7 +16,7 @@ ghost use Rattle.meter.specs.Answers.{totals_meaning, mean_meaning};
 
 use properties::Properties;
 use properties::quantities::CalorificValue;
-use records::{Record, Refusal};
+use records::{Pair, Record, Refusal};
 use std::marker::Model;
 
 // The last stream.
@@ -29,13 +29,6 @@ pub const MOST_TOTAL: u64 = 999999999999;
 pub const PER_MJ: u64 = 1000000000;
 // 10^-11 kg in 1 kg.
 pub const PER_KG: u64 = 100000000000;
-
-// A pair of temperatures, in °C.
-#[derive(Clone, Copy, PartialEq, Eq)]
-pub struct Pair {
-    pub combustion: u8,
-    pub metering: u8,
-}
 
 // The properties of an accepted record, and its pair.
 #[derive(Clone, Copy)]
@@ -179,10 +172,7 @@ impl Stream {
         ensures { Gives (stream_analysis self.old bytes.now) self.old result self.new }
     {
         let accepted = Record::new(bytes)?;
-        let pair = Pair {
-            combustion: accepted.combustion(),
-            metering: accepted.metering(),
-        };
+        let pair = accepted.pair();
         if self.pair_differs(pair) {
             return Err(Refusal::PairDiffers);
         }
