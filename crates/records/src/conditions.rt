@@ -74,5 +74,5 @@ pub fn above_limit(line: u8, fraction: u32) -> bool
     if fraction <= COMMON_LIMIT {
         return false;
     }
-    line != METHANE && line != WATER && limit_of(line) < fraction
+    (line != METHANE) & (line != WATER) & (limit_of(line) < fraction)
 }
