@@ -14,7 +14,8 @@ use lib.Signed.{pos-nat_abs}
 use Rattle.components.specs.Table.{entry_of, Unsigned}
 use Rattle.components.specs.Composition.{total, fraction_for, sum_of}
 use Rattle.components.proofs.Entries.{not_negative}
-use Rattle.components.proofs.SignedSums.{nat_abs_add, nat_abs_mul}
+use Rattle.std.proofs.lemmas.Int.{unsigned_abs-mul}
+use Rattle.components.proofs.SignedSums.{nat_abs_add}
 
 pub total_step : (xs : List ℕ) (k : ℕ) → k < length xs → total (drop k xs) ≡ get_or xs k 0 + total (drop (k + 1) xs)
 unfolding total
@@ -53,7 +54,7 @@ unfolding sum_of sizes
 sum_within_sizes c [] xs = zero-le
 sum_within_sizes c (l ∷ ls) [] = zero-le
 sum_within_sizes c (l ∷ ls) (x ∷ xs) =
-    omega (arith, sum_within_sizes c ls xs, nat_abs_add (pos x *ℤ entry_of l c) (sum_of c ls xs), nat_abs_mul x (entry_of l c))
+    omega (arith, sum_within_sizes c ls xs, nat_abs_add (pos x *ℤ entry_of l c) (sum_of c ls xs), unsigned_abs-mul (pos x) (entry_of l c))
 
 -- a column none of whose numbers has a greater size than n times that of the same line in another column
 pub sizes_below : (n c d : ℕ) → ((l : ℕ) → nat_abs (entry_of l c) ≤ n * nat_abs (entry_of l d)) → (ls xs : List ℕ) → sizes c ls xs ≤ n * sizes d ls xs

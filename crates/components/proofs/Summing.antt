@@ -1,17 +1,16 @@
 -- The loop that sums columns: what is summed and the sum of what is left are the whole, and everything fits.
-use mathlib.Core.Path.{◌≡◌, refl, sym, ◌∙◌}
+use mathlib.Core.Path.{◌≡◌, sym, ◌∙◌}
 use mathlib.Core.List.{List}
 use Prim.Native.Nat.{ℕ, ◌+◌, ◌*◌, ◌^◌, ◌≤◌, ◌<◌}
 use native.Mathlib.Nat.{mul-le-mul_left}
 use native.Mathlib.Omega.{arith}
-use lib.Dec.{T}
-use lib.IntN.{ℤ, pos, negsuc, nat_abs, ◌+ℤ◌, ◌*ℤ◌, +ℤ_idl}
+use lib.IntN.{ℤ, pos, nat_abs, ◌+ℤ◌, ◌*ℤ◌}
 use lib.ListN.{length, get_or, drop}
-use lib.Signed.{non_neg}
 use Rattle.components.specs.Table.{entry_of, molar_mass, summation, superior, inferior}
 use Rattle.components.specs.Composition.{Composition, total, sum_of}
 use Rattle.components.proofs.Entries.{largest, entry_below}
-use Rattle.components.proofs.SignedSums.{nat_abs_add, nat_abs_mul}
+use Rattle.std.proofs.lemmas.Int.{unsigned_abs-mul}
+use Rattle.components.proofs.SignedSums.{nat_abs_add}
 use Rattle.components.proofs.SumLaws.{total_step, sum_turn, sum_end}
 
 -- s is the sum of the entries before k
@@ -19,9 +18,6 @@ pub record Summed (c : ℕ) (ls xs : List ℕ) (s : ℤ) (k : ℕ) : Type 0 wher
   pub within : k ≤ length ls
   pub whole : s +ℤ sum_of c (drop k ls) (drop k xs) ≡ sum_of c ls xs
   pub size : nat_abs s + largest * total (drop k xs) ≤ largest * total xs
-
-nothing_summed : (c : ℕ) (ls xs : List ℕ) → Summed c ls xs (pos 0) 0
-nothing_summed c ls xs = record { within = omega arith; whole = +ℤ_idl _; size = omega arith }
 
 module _ {c : ℕ} {ls xs : List ℕ} {s : ℤ} {k : ℕ} (i : Summed c ls xs s k) where
   small : Composition ls xs → nat_abs s < 2 ^ 62
@@ -35,7 +31,7 @@ module _ {c : ℕ} {ls xs : List ℕ} {s : ℤ} {k : ℕ} (i : Summed c ls xs s 
       (record {
         within = omega arith;
         whole = sum_turn c ls xs k h (omega (arith, g.same)) s ∙ i.whole;
-        size = omega (arith, nat_abs_add s (pos x *ℤ n), nat_abs_mul x n, mul-le-mul_left x (entry_below (get_or ls k 0) c), total_step xs k (omega (arith, g.same)), i.size);
+        size = omega (arith, nat_abs_add s (pos x *ℤ n), unsigned_abs-mul (pos x) n, mul-le-mul_left x (entry_below (get_or ls k 0) c), total_step xs k (omega (arith, g.same)), i.size);
       })
 
   all_summed : length ls ≤ k → s ≡ sum_of c ls xs
@@ -47,10 +43,6 @@ pub record Four (t j : ℕ) (ls xs : List ℕ) (hs hi m : ℕ) (s : ℤ) (k : �
   pub inferior : Summed (inferior t) ls xs (pos hi) k
   pub mass : Summed molar_mass ls xs (pos m) k
   pub summation : Summed (summation j) ls xs s k
-
-pub no_sums : (t j : ℕ) (ls xs : List ℕ) → Four t j ls xs 0 0 0 (pos 0) 0
-no_sums t j ls xs =
-    record { superior = nothing_summed _ ls xs; inferior = nothing_summed _ ls xs; mass = nothing_summed _ ls xs; summation = nothing_summed _ ls xs }
 
 module _ {t j : ℕ} {ls xs : List ℕ} {hs hi m : ℕ} {s : ℤ} {k : ℕ} (f : Four t j ls xs hs hi m s k) where
   pub sums_small : Composition ls xs → (hs < 2 ^ 62) × (hi < 2 ^ 62) × (m < 2 ^ 62) × (nat_abs s < 2 ^ 62)
@@ -79,8 +71,3 @@ module _ {t j : ℕ} {ls xs : List ℕ} {hs hi m : ℕ} {s : ℤ} {k : ℕ} (f :
 -- one more entry fits 63 bits
 pub fits_more : (sum x l c : ℕ) → sum < 2 ^ 62 → x < 2 ^ 32 → sum + x * nat_abs (entry_of l c) < 2 ^ 63
 fits_more sum x l c h w = omega (arith, mul-le-mul_left x (entry_below l c))
-
--- of a number that is not below 0
-pub unsigned_more : (sum x : ℕ) (n : ℤ) → T (non_neg n) → pos sum +ℤ pos x *ℤ n ≡ pos (sum + x * nat_abs n)
-unsigned_more sum x (pos n) t = refl
-unsigned_more sum x (negsuc n) t = absurd t

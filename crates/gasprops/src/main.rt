@@ -6,75 +6,73 @@
 // for every n up to 55. These are `FirstBytesDecideProperties` and `FirstBytesDecidePerKilogram` in crates/properties/specs.
 #![tactic(auto)]
 
-mod output;
+mod trouble;
 
-ghost use Rattle.std.specs.Prelude.{◌≡◌, ◌≤◌, length, take};
+ghost use Rattle.std.specs.Prelude.{◌≤◌, IfOk, vec_len};
 
-use output::Output;
 use properties::{Answer, PerKilogram, PerKilogramAnswer, Properties};
-use report::print_line;
+use std::alloc::Allocator;
 use std::env::{Env, FillError};
-use std::io;
-use std::io::{Input as _, Read};
+use std::fmt::{Display, Formatter};
+use std::io::{Input, Read};
+use std::{fmt, io};
+use trouble::Trouble;
 
-// How many bytes stand at the start of a buffer, and why reading failed, if it did before the input's end.
+// The six lines of the properties.
 #[derive(Drop)]
-struct Input {
-    length: usize,
-    failure: Option<io::Error>,
-}
+struct SixLines(Properties);
 
-// Reads until the buffer is full or the input ends, however many pieces it comes in.
-fn read_input(reader: &mut impl Read, buffer: &mut [u8]) -> Input
-    ensures { (result.length ≤ length buffer.new) × (result.length ≡ length (take result.length buffer.new)) }
-{
-    let mut length = 0;
-    while length < buffer.len() {
-        match reader.read(&mut buffer[length..]) {
-            Ok(0) => break,
-            Ok(more) => length += more,
-            Err(e) => {
-                return Input {
-                    length,
-                    failure: Some(e),
-                };
-            }
-        }
-    }
-    Input {
-        length,
-        failure: None,
+impl Display for SixLines {
+    fn fmt<W: fmt::Write>(&self, f: &mut Formatter<W>) -> fmt::Result {
+        let p = self.0;
+        writeln!(f, "Z {}", p.z.value())?;
+        writeln!(f, "Hs {}", p.hs.value())?;
+        writeln!(f, "Hi {}", p.hi.value())?;
+        writeln!(f, "rho {}", p.rho.value())?;
+        writeln!(f, "d {}", p.d.value())?;
+        writeln!(f, "W {}", p.w.value())
     }
 }
 
-fn print_properties(rt: &impl Print, p: Properties) -> bool {
-    print_line(rt, b"Z", p.z.value())
-        && print_line(rt, b"Hs", p.hs.value())
-        && print_line(rt, b"Hi", p.hi.value())
-        && print_line(rt, b"rho", p.rho.value())
-        && print_line(rt, b"d", p.d.value())
-        && print_line(rt, b"W", p.w.value())
+// The two lines of the values per kilogram.
+#[derive(Drop)]
+struct TwoLines(PerKilogram);
+
+impl Display for TwoLines {
+    fn fmt<W: fmt::Write>(&self, f: &mut Formatter<W>) -> fmt::Result {
+        let v = self.0;
+        writeln!(f, "superior {}", v.superior.value())?;
+        writeln!(f, "inferior {}", v.inferior.value())
+    }
 }
 
-// The six lines of the properties, or the one line of a refusal. It answers whether all of it was written.
-fn print_answer(rt: &impl Print, answer: Answer) -> bool {
+fn properties_of(bytes: &[u8]) -> Result<SixLines, u8> {
+    match properties::properties_of(bytes) {
+        Answer::Accepted(p) => Ok(SixLines(p)),
+        Answer::Refused(number) => Err(number),
+    }
+}
+
+fn per_kilogram_of(bytes: &[u8]) -> Result<TwoLines, u8> {
+    match properties::per_kilogram_of(bytes) {
+        PerKilogramAnswer::Accepted(v) => Ok(TwoLines(v)),
+        PerKilogramAnswer::Refused(number) => Err(number),
+    }
+}
+
+// The lines of an answer, or the one line of a refusal.
+fn print_answer<T: Display + Drop>(rt: &impl Print, answer: Result<T, u8>) -> io::Result<()> {
     match answer {
-        Answer::Accepted(p) => print_properties(rt, p),
-        Answer::Refused(number) => print_line(rt, b"refused", number as u64),
+        Ok(lines) => print!(rt; "{lines}"),
+        Err(number) => println!(rt; "refused {number}"),
     }
 }
 
-fn print_per_kilogram(rt: &impl Print, v: PerKilogram) -> bool {
-    print_line(rt, b"superior", v.superior.value())
-        && print_line(rt, b"inferior", v.inferior.value())
-}
-
-// The two lines of the values per kilogram, or the one line of a refusal. It answers whether all of it was written.
-fn print_per_kilogram_answer(rt: &impl Print, answer: PerKilogramAnswer) -> bool {
-    match answer {
-        PerKilogramAnswer::Accepted(v) => print_per_kilogram(rt, v),
-        PerKilogramAnswer::Refused(number) => print_line(rt, b"refused", number as u64),
-    }
+// What is asked for of a record.
+#[derive(Clone, Copy)]
+enum Asked {
+    Properties,
+    PerKilogram,
 }
 
 // Whether there is an argument after the program's name and the i - 1 that follow it.
@@ -82,58 +80,40 @@ fn has_argument(rt: &impl Env, i: usize) -> bool {
     !matches!(rt.arg(i, &mut []), Err(FillError::NotPresent))
 }
 
-// Whether there is one argument, and it is `--per-kilogram`.
-fn is_per_kilogram(rt: &impl Env) -> bool {
+// Properties where there is no argument, values per kilogram where it is `--per-kilogram` alone.
+fn asked_for(rt: &impl Env) -> Result<Asked, Trouble> {
     let mut word = [0u8; 14];
-    let Ok(n) = rt.arg(1, &mut word) else {
-        return false;
-    };
-    !has_argument(rt, 2) & (word[..n] == b"--per-kilogram"[..])
-}
-
-// Prints what is asked for of a record. It answers whether all of it was written.
-fn print_asked(rt: &impl Print, per_kilogram: bool, bytes: &[u8]) -> bool {
-    if per_kilogram {
-        return print_per_kilogram_answer(rt, properties::per_kilogram_of(bytes));
+    match rt.arg(1, &mut word) {
+        Err(FillError::NotPresent) => Ok(Asked::Properties),
+        Ok(n) if word[..n] == b"--per-kilogram"[..] && !has_argument(rt, 2) => {
+            Ok(Asked::PerKilogram)
+        }
+        _ => Err(Trouble::Arguments),
     }
-    print_answer(rt, properties::properties_of(bytes))
 }
 
-// An error's words, without the number that std writes after them.
-fn words_of(text: &str) -> &str {
-    let Some((words, _)) = text.split_once(" (os error ") else {
-        return text;
-    };
-    words
+// What stands in the input up to its end, or the bytes that decide.
+fn read_record<R: Read + Drop, A: Allocator>(reader: R, alloc: A) -> io::Result<Vec<u8, A>>
+    ensures { IfOk result (λ bytes. vec_len bytes ≤ 284) }
+{
+    reader.bytes().take(284).try_collect(alloc)
 }
 
-// Writes a line to standard error: what failed, a colon and the system's words for why. Where there is no memory to cut the words out,
-// the number stands after them.
-fn tell<R: Eprint + Alloc>(rt: &R, what: &str, reason: io::Error) -> io::Result<()> {
-    let Ok(text) = format!(in rt.alloc(); "{reason}") else {
-        return eprintln!(rt; "gasprops: {what}: {reason}");
-    };
-    let words = words_of(&text);
-    eprintln!(rt; "gasprops: {what}: {words}")
+fn print_asked(rt: &impl Print, asked: Asked, bytes: &[u8]) -> io::Result<()> {
+    match asked {
+        Asked::Properties => print_answer(rt, properties_of(bytes)),
+        Asked::PerKilogram => print_answer(rt, per_kilogram_of(bytes)),
+    }
+}
+
+fn run<R: Env + Input + Print + Alloc>(rt: &R) -> Result<(), Trouble> {
+    let asked = asked_for(rt)?;
+    let bytes = read_record(rt.reader(), rt.alloc()).map_err(Trouble::Input)?;
+    print_asked(rt, asked, &bytes).map_err(Trouble::Output)
 }
 
 fn main(rt: HostRuntime) {
-    let per_kilogram = has_argument(&rt, 1);
-    if per_kilogram && !is_per_kilogram(&rt) {
-        let _ = eprintln!(rt; "gasprops: the only argument is --per-kilogram");
-        return;
-    }
-    let mut buffer = [0u8; 284];
-    let input = read_input(&mut rt.reader(), &mut buffer);
-    let n = input.length;
-    if let Some(reason) = input.failure {
-        let _ = tell(&rt, "standard input", reason);
-        return;
-    }
-    let output = Output::new(rt.stdout());
-    if !print_asked(&output, per_kilogram, &buffer[..n]) {
-        if let Some(reason) = output.failure() {
-            let _ = tell(&rt, "standard output", reason);
-        }
+    if let Err(trouble) = run(&rt) {
+        let _ = trouble.tell(&rt);
     }
 }

@@ -11,11 +11,12 @@ ghost use Rattle.lent_meter.specs.Check.{Tells, RegisterUnit, between, within_ra
 
 use super::words;
 use super::words::Row;
-use meter::{Pair, Register};
+use meter::Register;
 use properties::quantities::{
     CalorificValue, CompressionFactor, Density, RelativeDensity, WobbeIndex,
 };
 use properties::steps;
+use records::Pair;
 
 // Two digits to this base make every volume total, and the unit of every register is a multiple of it.
 const BASE: u64 = 1000000;
@@ -34,13 +35,11 @@ fn pair_in(row: &Row) -> Option<Pair>
 {
     let combustion = u8::try_from(row[words::COMBUSTION]).ok()?;
     let metering = u8::try_from(row[words::METERING]).ok()?;
-    if !records::pair_permitted(combustion, metering) {
-        return None;
-    }
-    Some(Pair {
+    let pair = Pair {
         combustion,
         metering,
-    })
+    };
+    if pair.is_permitted() { Some(pair) } else { None }
 }
 
 // Whether a value lies between two others, both included.

@@ -17,7 +17,7 @@ ghost use Rattle.lent_meter.specs.Words.{packed, packed_totals};
 ghost use Rattle.lent_meter.specs.Lent.{Lent, LentRow, OnWords, Leaves, OnMeter, OnRow, LeavesRow};
 ghost use Rattle.lent_meter.specs.Check.{Tells};
 
-use meter::{Energy, Gas, Pair, StreamTotals};
+use meter::{Energy, Gas, StreamTotals};
 use properties::quantities::CalorificValue;
 use records::{Record, Refusal};
 use words::Row;
@@ -46,10 +46,7 @@ fn analysis_row(row: &mut Row, bytes: &[u8]) -> Result<(), Refusal>
     ensures leaves_row { LeavesRow row.old (number_in result) row.new }
 {
     let accepted = Record::new(bytes)?;
-    let pair = Pair {
-        combustion: accepted.combustion(),
-        metering: accepted.metering(),
-    };
+    let pair = accepted.pair();
     if words::pair_differs(row, pair) {
         return Err(Refusal::PairDiffers);
     }

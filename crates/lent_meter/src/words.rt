@@ -6,11 +6,12 @@ ghost use Rattle.lent_meter.specs.Words.{totals_in, six_in, with_gas_words, with
 ghost use Rattle.lent_meter.specs.Check.{words_differ};
 
 use super::totals_words;
-use meter::{Gas, Pair, Register, StreamTotals};
+use meter::{Gas, Register, StreamTotals};
 use properties::Properties;
 use properties::quantities::{
     CalorificValue, CompressionFactor, Density, RelativeDensity, WobbeIndex,
 };
+use records::Pair;
 
 // Words of a stream. C lends an array of them, so each has its place by number.
 pub const WORDS: usize = 16;

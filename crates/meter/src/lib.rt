@@ -16,7 +16,7 @@ ghost use Rattle.meter.specs.Answers.{totals_meaning, mean_meaning};
 
 use properties::Properties;
 use properties::quantities::CalorificValue;
-use records::{Record, Refusal};
+use records::{Pair, Record, Refusal};
 use std::marker::Model;
 
 // The last stream.
@@ -29,13 +29,6 @@ pub const MOST_TOTAL: u64 = 999999999999;
 pub const PER_MJ: u64 = 1000000000;
 // 10^-11 kg in 1 kg.
 pub const PER_KG: u64 = 100000000000;
-
-// A pair of temperatures, in °C.
-#[derive(Clone, Copy, PartialEq, Eq)]
-pub struct Pair {
-    pub combustion: u8,
-    pub metering: u8,
-}
 
 // The properties of an accepted record, and its pair.
 #[derive(Clone, Copy)]
@@ -156,6 +149,14 @@ impl StreamTotals {
             Energy::Inferior => self.inferior,
         }
     }
+
+    // The mean calorific value of an energy over the volume, in J/m³, or 18.
+    pub fn mean(self, energy: Energy) -> Result<CalorificValue, Refusal>
+        requires { SoundTotals self }
+        ensures { mean_meaning result ≡ mean_over (register_of energy self) self.volume }
+    {
+        self.register_of(energy).mean_over(self.volume)
+    }
 }
 
 impl Stream {
@@ -171,10 +172,7 @@ impl Stream {
         ensures { Gives (stream_analysis self.old bytes.now) self.old result self.new }
     {
         let accepted = Record::new(bytes)?;
-        let pair = Pair {
-            combustion: accepted.combustion(),
-            metering: accepted.metering(),
-        };
+        let pair = accepted.pair();
         if self.pair_differs(pair) {
             return Err(Refusal::PairDiffers);
         }
@@ -196,15 +194,6 @@ impl Stream {
         }
         self.totals = self.totals.added(gas.properties, volume);
         Ok(())
-    }
-
-    // The mean calorific value of an energy of what the stream has taken, in J/m³, or 18.
-    fn mean(&self, energy: Energy) -> Result<CalorificValue, Refusal>
-        ensures { mean_meaning result ≡ mean_over (register_of energy self.now.totals) self.now.totals.volume }
-    {
-        self.totals
-            .register_of(energy)
-            .mean_over(self.totals.volume)
     }
 }
 
@@ -252,6 +241,7 @@ impl Meter {
         ensures { mean_meaning result ≡ mean_for energy self.now stream }
     {
         check_stream(stream)?;
-        self.streams[stream].mean(energy)
+        let named = &self.streams[stream];
+        named.totals.mean(energy)
     }
 }

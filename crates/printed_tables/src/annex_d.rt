@@ -1,48 +1,21 @@
 // Annex D: table D.1, and the text from D.1 to D.4.3.
-ghost use Rattle.std.specs.Prelude.{◌≡◌, ◌<◌};
+ghost use Rattle.std.specs.Prelude.{◌≡◌, ◌<◌, slice_index, map, refl};
 ghost use Rattle.properties.specs.Answers.{numbers};
 ghost use Rattle.printed_tables.specs.Gas.{gas_totals};
-ghost use Rattle.printed_tables.specs.Text.{text_values, text_figure};
+ghost use Rattle.printed_tables.specs.Text.{text_values, text_steps, text_figure};
+ghost use Rattle.printed_tables.specs.Parts.{text_figures};
+ghost use Rattle.printed_tables.specs.declared.text.TheConstants.{FIGURES};
 
-use super::parts::Part;
-use super::{gas, parts, table_d1, text};
+use super::gas::TableD1;
+use super::parts::{Counts, Part, count};
+use super::places::{Place, print_differences};
+use super::{gas, text};
 use properties::quantities::{CalorificValue, RelativeDensity};
 use properties::{Answer, Properties, steps};
-use report::print_text;
+use std::io;
 
 // The values of the figures of the text, six to a row.
 pub type Values = [[u64; 6]; 5];
-
-// The names of the figures of the text, and after them those of the columns of table D.1.
-pub fn print_name(rt: &impl Print, k: usize) -> bool {
-    match k {
-        0 => print_text(rt, b"table D.1, total x"),
-        1 => print_text(rt, b"table D.1, total x M"),
-        2 => print_text(rt, b"table D.1, total x H"),
-        3 => print_text(rt, b"table D.1, total x s"),
-        4 => print_text(rt, b"D.1, ideal H per mole"),
-        5 | 6 => print_text(rt, b"D.2, ideal H per kilogram"),
-        7 => print_text(rt, b"D.2, by formula (7)"),
-        8 | 9 => print_text(rt, b"D.3, ideal H"),
-        10 => print_text(rt, b"D.3, by formula (9)"),
-        11 => print_text(rt, b"D.3, sum of x s"),
-        12 | 13 => print_text(rt, b"D.3, Z"),
-        14 | 15 => print_text(rt, b"D.3, H"),
-        16 | 17 => print_text(rt, b"D.4.1, ideal d"),
-        18 | 19 => print_text(rt, b"D.4.1, d"),
-        20 | 21 => print_text(rt, b"D.4.2, ideal rho"),
-        22 | 23 => print_text(rt, b"D.4.2, rho"),
-        24 | 25 => print_text(rt, b"D.4.3, ideal W"),
-        26 | 27 => print_text(rt, b"D.4.3, W"),
-        28 => print_text(rt, b"D.4.3, W with all digits"),
-        29 => print_text(rt, b"M"),
-        30 => print_text(rt, b"H"),
-        31 => print_text(rt, b"s"),
-        32 => print_text(rt, b"x M"),
-        33 => print_text(rt, b"x H"),
-        _ => print_text(rt, b"x s"),
-    }
-}
 
 // The values whose figures are printed, from the sums and the properties of the gas: h_m is the calorific value per kilogram, unit
 // 10 J/kg, and the ideal relative density has 1 for the compression factor of air.
@@ -69,47 +42,76 @@ fn values(totals: gas::Totals, p: Properties) -> Values
     ]
 }
 
-// The k-th figure as calculated.
-pub fn figure(values: &Values, k: usize) -> u64
-    requires { k < 29 }
-    ensures { result ≡ text_figure values.now k }
+// The k-th figure.
+fn figure_of(k: usize) -> text::Figure
+    requires { k < text_figures }
+    ensures digits { result.digits ≡ slice_index (map (λ figure. figure.digits) FIGURES) k }
+    ensures scale { 0 < result.scale }
+    ensures step { result.step ≡ slice_index text_steps k }
 {
-    rounding::nearest(values[k / 6][k % 6], text::STEPS[k])
+    text::FIGURES[k]
+}
+
+// The text after the rows of table D.1, with the values of its figures.
+#[derive(Drop)]
+struct Text {
+    values: Values,
+}
+
+impl Part for Text {
+    const NAME: &'static str = "annex D";
+
+    ghost figures = { text_figures };
+
+    ghost printed = { map (λ figure. figure.digits) FIGURES };
+
+    ghost calculated = { λ text. text_figure text.values };
+
+    fn len(&self) -> usize {
+        text::FIGURES.len()
+    }
+
+    fn printed(&self, k: usize) -> u64 {
+        u64::from(figure_of(k).digits)
+    }
+
+    fn calculated(&self, k: usize) -> u64 {
+        rounding::nearest(self.values[k / 6][k % 6], figure_of(k).step)
+    }
+
+    fn scale(&self, k: usize) -> u64 {
+        figure_of(k).scale
+    }
+
+    fn place(&self, k: usize) -> Place {
+        Place::Text {
+            name: text::NAMES[k],
+        }
+    }
+
+    ghost whole = { refl };
 }
 
 // All figures, with the properties of the gas's record.
-fn print_counts(rt: &impl Print, p: Properties) {
-    let values = values(gas::gas_totals(), p);
-    let none = parts::Counts::new();
-    let rows = parts::count(rt, none, Part::TableD1, &table_d1::FIGURES, &values);
-    let counts = parts::count(rt, rows, Part::Text, &text::FIGURES, &values);
-    print_text(rt, b"annex D: ");
-    counts.print(rt);
+fn print_figures(rt: &impl Print, p: Properties) -> io::Result<()> {
+    let text = Text {
+        values: values(gas::gas_totals(), p),
+    };
+    print_differences(rt, &TableD1)?;
+    print_differences(rt, &text)?;
+    let rows = count(Counts::new(), &TableD1);
+    println!(rt; "annex D: {}", count(rows, &text))
 }
 
-pub fn print_comparison(rt: &impl Print) {
+pub fn print_comparison(rt: &impl Print) -> io::Result<()> {
     let mut record = [0u8; 48];
     records::write(15, 15, &gas::LINES, &gas::FRACTIONS, &mut record);
     match properties::properties_of(&record) {
-        Answer::Accepted(p) => print_counts(rt, p),
-        Answer::Refused(_) => {
-            print_text(rt, b"annex D: the record is refused\n");
-        }
+        Answer::Accepted(p) => print_figures(rt, p)?,
+        Answer::Refused(_) => println!(rt; "annex D: the record is refused")?,
     }
-    print_text(
-        rt,
-        b"not compared: the fractions x of table D.1, the input\n",
-    );
-    print_text(
-        rt,
-        b"not compared: the constants p2, T2, R, molar mass of air, Z of air\n",
-    );
-    print_text(
-        rt,
-        b"not compared: figures that a later formula of annex D repeats\n",
-    );
-    print_text(
-        rt,
-        b"not compared: D.5 and table D.2, estimates of precision\n",
-    );
+    println!(rt; "not compared: the fractions x of table D.1, the input")?;
+    println!(rt; "not compared: the constants p2, T2, R, molar mass of air, Z of air")?;
+    println!(rt; "not compared: figures that a later formula of annex D repeats")?;
+    println!(rt; "not compared: D.5 and table D.2, estimates of precision")
 }

@@ -1,48 +1,139 @@
 // The gas of annex D at 15/15: table D.1, its sums, and formulas (7) and (9).
-ghost use Rattle.std.specs.Prelude.{◌≡◌, ◌<◌};
+ghost use Rattle.std.specs.Prelude.{◌≡◌, ◌%◌, ◌<◌, slice_index, refl};
 ghost use Rattle.properties.specs.Chain.{HmSuperior, M, S};
 ghost use Rattle.printed_tables.specs.Figures.{number_of};
 ghost use Rattle.printed_tables.specs.Gas.{gas, line_at, fraction_at, mass_part, volume_part, gas_totals};
-ghost use Rattle.printed_tables.specs.TableD1.{row_weight, row_scale, row_figure};
+ghost use Rattle.printed_tables.specs.TableD1.{row_columns, row_scales, row_units, row_weight, row_scale, row_figure};
 
-use super::tables;
+use super::parts::Part;
+use super::places::Place;
+use super::{table_d1, tables};
+use components::{Combustion, Metering, Sums};
 use properties::steps;
 
-// The lines, and their mole fractions in ppm.
+// The lines, and their mole fractions in ppm: two lists, as `records::write` takes them.
 pub const LINES: [u8; 8] = [1, 2, 3, 4, 5, 6, 52, 54];
 
 pub const FRACTIONS: [u32; 8] = [924700, 35000, 9800, 2200, 3400, 600, 17500, 6800];
 
-// Of M, H, s, x M, x H and x s: the columns in the component table, the scales, and how many of the unit make 1.
-const COLUMNS: [usize; 6] = [0, 8, 2, 0, 8, 2];
+// A column of table D.1: its column of the component table, the scale of its figures, and how many of the unit make 1.
+#[derive(Clone, Copy)]
+struct Column {
+    column: usize,
+    scale: u64,
+    unit: u64,
+}
 
-const SCALES: [u64; 6] = [1000, 100, 10000, 10000, 100, 100000];
+const COLUMNS: [Column; 6] = [
+    Column {
+        column: 0,
+        scale: 1000,
+        unit: 10000,
+    },
+    Column {
+        column: 8,
+        scale: 100,
+        unit: 1000,
+    },
+    Column {
+        column: 2,
+        scale: 10000,
+        unit: 10000,
+    },
+    Column {
+        column: 0,
+        scale: 10000,
+        unit: 10000000000,
+    },
+    Column {
+        column: 8,
+        scale: 100,
+        unit: 1000000000,
+    },
+    Column {
+        column: 2,
+        scale: 100000,
+        unit: 10000000000,
+    },
+];
 
-const UNITS: [u64; 6] = [10000, 1000, 10000, 10000000000, 1000000000, 10000000000];
+// Their names, apart from the numbers: no proof names a constant in which text stands.
+const NAMES: [&str; 6] = ["M", "H", "s", "x M", "x H", "x s"];
+
+// The column of the k-th figure.
+fn column_of(k: usize) -> Column
+    ensures column { result.column ≡ slice_index row_columns (k % 6) }
+    ensures scale { result.scale ≡ slice_index row_scales (k % 6) }
+    ensures unit { result.unit ≡ slice_index row_units (k % 6) }
+{
+    COLUMNS[k % 6]
+}
 
 // The i-th line's number in a column of the component table, without its sign.
 fn number(i: usize, column: usize) -> u64
     requires { (i < 8) × (column < 12) }
     ensures { result ≡ number_of (line_at i) column }
 {
-    tables::number(LINES[i] as usize, column)
+    tables::number(usize::from(LINES[i]), column)
 }
 
 fn fraction(i: usize) -> u64
     requires { i < 8 }
     ensures { result ≡ fraction_at i }
 {
-    FRACTIONS[i] as u64
+    u64::from(FRACTIONS[i])
+}
+
+// Table D.1.
+pub struct TableD1;
+
+impl Part for TableD1 {
+    const NAME: &'static str = "annex D, table D.1";
+
+    ghost use Rattle.printed_tables.specs.Parts.{table_d1_figures};
+    ghost use Rattle.printed_tables.specs.TableD1.{row_figure};
+    ghost use Rattle.printed_tables.specs.declared.table_d1.TheConstants.{FIGURES};
+
+    ghost figures = { table_d1_figures };
+
+    ghost printed = { FIGURES };
+
+    ghost calculated = { λ _. row_figure };
+
+    fn len(&self) -> usize {
+        table_d1::FIGURES.len()
+    }
+
+    fn printed(&self, k: usize) -> u64 {
+        u64::from(table_d1::FIGURES[k])
+    }
+
+    fn calculated(&self, k: usize) -> u64 {
+        figure(k)
+    }
+
+    fn scale(&self, k: usize) -> u64 {
+        scale(k)
+    }
+
+    fn place(&self, k: usize) -> Place {
+        Place::Row {
+            line: LINES[k / 6],
+            name: NAMES[k % 6],
+        }
+    }
+
+    ghost whole = { refl };
 }
 
 // The scale of the k-th figure. Molar masses have three decimals, and nitrogen's, figure 36, four.
-pub fn scale(k: usize) -> u64
-    ensures { result ≡ row_scale k }
+fn scale(k: usize) -> u64
+    ensures { (result ≡ row_scale k) × (0 < result) }
 {
     if k == 36 {
         return 10000;
     }
-    SCALES[k % 6]
+    column_of(k).scale
 }
 
 // What the number of the table is multiplied by: 1 or x.
@@ -57,12 +148,13 @@ fn weight(k: usize) -> u64
 }
 
 // The k-th figure as calculated.
-pub fn figure(k: usize) -> u64
+fn figure(k: usize) -> u64
     requires { k < 48 }
     ensures { result ≡ row_figure k }
 {
-    let n = number(k / 6, COLUMNS[k % 6]);
-    rounding::nearest(weight(k) * n * scale(k), UNITS[k % 6])
+    let column = column_of(k);
+    let n = number(k / 6, column.column);
+    rounding::nearest(weight(k) * n * scale(k), column.unit)
 }
 
 // The sums of x H, x M, x s and x, of formula (7), unit 10^-12 MJ/kg, and of formula (9), unit 10^-6 J/m³.
@@ -97,14 +189,14 @@ fn volume_part(i: usize) -> u64
 }
 
 // The sums of the gas over the component table, h and s at 15 °C.
-fn sums() -> components::Sums
+fn sums() -> Sums
     ensures superior { result.superior ≡ HmSuperior gas }
     ensures mass { result.mass ≡ M gas }
     ensures summation { result.summation ≡ S gas }
 {
-    let mut sums = components::no_sums();
+    let mut sums = Sums::default();
     for i in 0..8 {
-        sums = components::add_to_sums(sums, LINES[i], FRACTIONS[i], 2, 1);
+        sums.add(LINES[i], FRACTIONS[i], Combustion::At15, Metering::At15);
     }
     sums
 }

@@ -1,12 +1,13 @@
 // Tables 4 and 5: the ideal calorific value per kilogram and per cubic metre of the lines 1 to 48, superior and inferior by turns.
-ghost use Rattle.std.specs.Prelude.{◌≡◌, ◌<◌, ◌≤◌, length};
-ghost use Rattle.printed_tables.specs.Figures.{number_of, scale_of, figure_per_kilogram, figure_per_cubic_metre};
-ghost use Rattle.printed_tables.specs.Parts.{figures_in};
+ghost use Rattle.std.specs.Prelude.{◌≡◌, ◌/◌, ◌<◌, ◌≤◌, slice_index, refl};
+ghost use Rattle.printed_tables.specs.Figures.{number_of, scale_of, figure_per_kilogram, superiors, meterings, figure_per_cubic_metre};
 
-use super::{parts, places};
+use super::parts::{Counts, Part, count};
+use super::places::{Place, print_differences};
+use super::{table_4, table_5};
 use properties::quantities::MassCalorificValue;
 use properties::steps;
-use report::print_text;
+use std::io;
 
 // The columns of the component table: m, and superior h at 25 and 15 °C.
 pub const M: usize = 0;
@@ -20,52 +21,186 @@ pub fn number(line: usize, column: usize) -> u64
     requires { (1 ≤ line) × (line ≤ 55) × (column < 12) }
     ensures { result ≡ number_of line column }
 {
-    components::entry(line as u8, column).unsigned_abs() as u64
+    u64::from(components::entry(line as u8, column).unsigned_abs())
 }
 
-// The conditions of table 5, 15/15, 0/0, 15/0, 25/0, 20/20 and 25/20: the column of superior h, and the metering temperature, °C.
-const SUPERIOR: [usize; 6] = [8, 10, 8, 4, 6, 4];
+// By turns.
+const VALUES: [&str; 2] = ["superior", "inferior"];
 
-const METERING: [u8; 6] = [15, 0, 0, 0, 20, 20];
+// Table 4, the ideal calorific value per kilogram.
+pub struct Table4;
 
-// Three decimals for methane and, in table 5, hydrogen; two for the other lines.
-pub fn scale(table: u8, line: usize) -> u64
-    ensures { (result ≡ scale_of table line) × (result ≤ 1000) }
-{
-    if (line == 1) | ((table == 5) & (line == 41)) {
-        return 1000;
+impl Table4 {
+    const TEMPERATURES: [&'static str; 4] = ["25", "20", "15", "0"];
+
+    // Three decimals for methane, two for the other lines.
+    fn scale_of_line(line: usize) -> u64
+        ensures { (result ≡ scale_of 4 line) × (result ≤ 1000) }
+    {
+        if line == 1 { 1000 } else { 100 }
     }
-    100
+
+    // The figure of a line in a column.
+    fn figure(line: usize, column: usize) -> u64
+        requires { (1 ≤ line) × (line ≤ 55) × (column < 8) }
+        ensures { result ≡ figure_per_kilogram line column }
+    {
+        let h = number(line, H_25 + column);
+        let m = number(line, M);
+        let value = steps::per_kilogram(1000000 * h, 1000000 * m).value();
+        rounding::nearest(value * Self::scale_of_line(line), MassCalorificValue::SCALE)
+    }
 }
 
-// The figures of a line in a column.
-pub fn figure_per_kilogram(line: usize, column: usize) -> u64
-    requires { (1 ≤ line) × (line ≤ 55) × (column < 8) }
-    ensures { result ≡ figure_per_kilogram line column }
-{
-    let h = number(line, H_25 + column);
-    let m = number(line, M);
-    let value = steps::per_kilogram(1000000 * h, 1000000 * m).value();
-    rounding::nearest(value * scale(4, line), MassCalorificValue::SCALE)
+impl Part for Table4 {
+    const NAME: &'static str = "table 4";
+
+    ghost use Rattle.printed_tables.specs.Parts.{table_4_figures, table_4_figure};
+    ghost use Rattle.printed_tables.specs.declared.table_4.TheConstants.{FIGURES};
+
+    ghost figures = { table_4_figures };
+
+    ghost printed = { FIGURES };
+
+    ghost calculated = { λ _. table_4_figure };
+
+    fn len(&self) -> usize {
+        table_4::FIGURES.len()
+    }
+
+    fn printed(&self, k: usize) -> u64 {
+        u64::from(table_4::FIGURES[k])
+    }
+
+    fn calculated(&self, k: usize) -> u64 {
+        Self::figure(k / 8 + 1, k % 8)
+    }
+
+    fn scale(&self, k: usize) -> u64 {
+        Self::scale_of_line(k / 8 + 1)
+    }
+
+    fn place(&self, k: usize) -> Place {
+        Place::Cell {
+            line: k / 8 + 1,
+            value: VALUES[k % 2],
+            conditions: Self::TEMPERATURES[k % 8 / 2],
+        }
+    }
+
+    ghost whole = { refl };
 }
 
-pub fn figure_per_cubic_metre(line: usize, column: usize) -> u64
-    requires { (1 ≤ line) × (line ≤ 55) × (column < 12) }
-    ensures { result ≡ figure_per_cubic_metre line column }
-{
-    let h = number(line, SUPERIOR[column / 2] + column % 2);
-    let value = steps::ideal_calorific_value(1000000 * h, METERING[column / 2]);
-    rounding::nearest(value * scale(5, line), 1000000)
+// A pair of conditions of table 5: the column of superior h, and the metering temperature, °C.
+#[derive(Clone, Copy)]
+struct Conditions {
+    superior: usize,
+    metering: u8,
 }
 
-pub fn print_comparison(rt: &impl Print, table: u8, part: parts::Part, figures: &[u32])
-    requires { length figures.now ≡ figures_in part }
-{
-    let counts = parts::count(rt, parts::Counts::new(), part, figures, &[[0; 6]; 5]);
-    places::print_table(rt, table);
-    print_text(rt, b": ");
-    counts.print(rt);
-    print_text(rt, b"not compared: the names of ");
-    places::print_table(rt, table);
-    print_text(rt, b"; it has no lines 49 to 55\n");
+// Table 5, the ideal calorific value per cubic metre.
+pub struct Table5;
+
+impl Table5 {
+    const CONDITIONS: [Conditions; 6] = [
+        Conditions {
+            superior: 8,
+            metering: 15,
+        },
+        Conditions {
+            superior: 10,
+            metering: 0,
+        },
+        Conditions {
+            superior: 8,
+            metering: 0,
+        },
+        Conditions {
+            superior: 4,
+            metering: 0,
+        },
+        Conditions {
+            superior: 6,
+            metering: 20,
+        },
+        Conditions {
+            superior: 4,
+            metering: 20,
+        },
+    ];
+
+    // Their names, apart from the numbers: no proof names a constant in which text stands.
+    const NAMES: [&'static str; 6] = ["15/15", "0/0", "15/0", "25/0", "20/20", "25/20"];
+
+    // Three decimals for methane and hydrogen, two for the other lines.
+    fn scale_of_line(line: usize) -> u64
+        ensures { (result ≡ scale_of 5 line) × (result ≤ 1000) }
+    {
+        if line == 1 || line == 41 { 1000 } else { 100 }
+    }
+
+    fn conditions_of(column: usize) -> Conditions
+        requires { column < 12 }
+        ensures superior { result.superior ≡ slice_index superiors (column / 2) }
+        ensures metering { result.metering ≡ slice_index meterings (column / 2) }
+    {
+        Self::CONDITIONS[column / 2]
+    }
+
+    // The figure of a line in a column.
+    fn figure(line: usize, column: usize) -> u64
+        requires { (1 ≤ line) × (line ≤ 55) × (column < 12) }
+        ensures { result ≡ figure_per_cubic_metre line column }
+    {
+        let conditions = Self::conditions_of(column);
+        let h = number(line, conditions.superior + column % 2);
+        let value = steps::ideal_calorific_value(1000000 * h, conditions.metering);
+        rounding::nearest(value * Self::scale_of_line(line), 1000000)
+    }
+}
+
+impl Part for Table5 {
+    const NAME: &'static str = "table 5";
+
+    ghost use Rattle.printed_tables.specs.Parts.{table_5_figures, table_5_figure};
+    ghost use Rattle.printed_tables.specs.declared.table_5.TheConstants.{FIGURES};
+
+    ghost figures = { table_5_figures };
+
+    ghost printed = { FIGURES };
+
+    ghost calculated = { λ _. table_5_figure };
+
+    fn len(&self) -> usize {
+        table_5::FIGURES.len()
+    }
+
+    fn printed(&self, k: usize) -> u64 {
+        u64::from(table_5::FIGURES[k])
+    }
+
+    fn calculated(&self, k: usize) -> u64 {
+        Self::figure(k / 12 + 1, k % 12)
+    }
+
+    fn scale(&self, k: usize) -> u64 {
+        Self::scale_of_line(k / 12 + 1)
+    }
+
+    fn place(&self, k: usize) -> Place {
+        Place::Cell {
+            line: k / 12 + 1,
+            value: VALUES[k % 2],
+            conditions: Self::NAMES[k % 12 / 2],
+        }
+    }
+
+    ghost whole = { refl };
+}
+
+pub fn print_comparison<P: Part>(rt: &impl Print, table: &P) -> io::Result<()> {
+    let name = P::NAME;
+    print_differences(rt, table)?;
+    println!(rt; "{name}: {}", count(Counts::new(), table))?;
+    println!(rt; "not compared: the names of {name}; it has no lines 49 to 55")
 }

@@ -13,9 +13,9 @@ use mir.Facts.{to_z-of_z}
 use Rattle.rounding.specs.Fraction.{Within, ◌over◌, half, whole}
 use Rattle.rounding.specs.Root.{Root}
 use Rattle.rounding.proofs.NearLaws.{near_half, near_monotone, near_z_half}
-use Rattle.rounding.proofs.SignedWords.{fits64}
+use Rattle.std.proofs.lemmas.Int.{fits_signed_from_abs}
 use Rattle.rounding.proofs.FractionLaws.{within_wider, within_one}
-use Rattle.components.specs.Table.{superior, inferior, Heat, Unsigned}
+use Rattle.components.specs.Table.{molar_mass, superior, inferior, Heat, Unsigned}
 use Rattle.components.specs.Composition.{sum_of, over_lines}
 use Rattle.components.specs.Bounds.{heat_low, heat_high, mass_low, mass_high, heat_by_mass, summation_high, Bounds}
 use Rattle.components.proofs.SumLaws.{sum_is_sizes}
@@ -26,10 +26,10 @@ use Rattle.records.specs.Format.{Contents, contents}
 use Rattle.records.specs.Calls.{reading_of}
 use Rattle.records.specs.Accepted.{Acceptable}
 use Rattle.records.proofs.Accepted.{accepted_is_acceptable}
-use Rattle.properties.specs.Chain.{combustion_place, T, D, HmSuperior, HmInferior, M, S, S9, Z, Hs, Hi, rho, A, G, d, r, W, ideal_calorific, ideal_density, real, wobbe, root_of, six_of}
+use Rattle.properties.specs.Chain.{combustion_place, sum, T, D, HmSuperior, HmInferior, M, S, S9, Z, Hs, Hi, rho, A, G, d, r, W, ideal_calorific, ideal_density, real, wobbe, root_of, six_of}
 use Rattle.properties.specs.Unrounded as unrounded
-use Rattle.properties.specs.Quantities.{calorific_bound, density_bound, relative_bound, wobbe_bound, Bounded}
-use Rattle.properties.specs.Bounds.{divisor_low, divisor_high, air_low, air_high, compression_low, calorific_low, ideal_calorific_high, calorific_high, density_low, relative_low, ideal_relative_high, ideal_high, wobbe_low, Floored, Proper, DensityByAir}
+use Rattle.properties.specs.Quantities.{density_bound, relative_bound, wobbe_bound, Bounded}
+use Rattle.properties.specs.Bounds.{divisor_low, divisor_high, air_low, air_high, compression_low, calorific_low, calorific_high, density_low, relative_low, ideal_relative_high, ideal_high, wobbe_low, Floored, Proper, DensityByAir}
 use Rattle.properties.specs.Distances.{Indexed, Distances}
 use Rattle.properties.specs.PerKilogram.{per_kilogram, unrounded_per_kilogram, mass_basis_of, per_kilogram_distance, PerKilogramShown, MeteringDoesNotMatter}
 use Rattle.properties.specs.Accepted.{Amounts, Squares, EveryAcceptedRecord}
@@ -63,21 +63,18 @@ module _ (k : Contents) (a : Acceptable k) where
   in_bounds : Bounds k.lines k.fractions
   in_bounds = methane_bounds k.lines k.fractions a.composition a.share
 
-  superior_low : heat_low ≤ HmSuperior k
+  -- a sum of heats is within its bounds
+  heat_bounds : (c : ℕ) → Heat c → (heat_low ≤ nat_abs (sum k c)) × (nat_abs (sum k c) ≤ heat_high) × (nat_abs (sum k c) ≤ heat_by_mass * M k)
+  unfolding M
+  heat_bounds c h = rw (over_entries c, over_entries molar_mass) (in_bounds.heat_low_lem c h, in_bounds.heat_high_lem c h, heat_by_mass_lem c h k.lines k.fractions)
+
+  pub superior_bounds : (heat_low ≤ HmSuperior k) × (HmSuperior k ≤ heat_high) × (HmSuperior k ≤ heat_by_mass * M k)
   unfolding HmSuperior
-  superior_low = rw (over_entries _) (in_bounds.heat_low_lem _ (heats k.combustion).0)
+  superior_bounds = heat_bounds _ (heats k.combustion).0
 
-  pub superior_high : HmSuperior k ≤ heat_high
-  unfolding HmSuperior
-  superior_high = rw (over_entries _) (in_bounds.heat_high_lem _ (heats k.combustion).0)
-
-  pub inferior_high : HmInferior k ≤ heat_high
+  pub inferior_bounds : (heat_low ≤ HmInferior k) × (HmInferior k ≤ heat_high) × (HmInferior k ≤ heat_by_mass * M k)
   unfolding HmInferior
-  inferior_high = rw (over_entries _) (in_bounds.heat_high_lem _ (heats k.combustion).1)
-
-  inferior_low : heat_low ≤ HmInferior k
-  unfolding HmInferior
-  inferior_low = rw (over_entries _) (in_bounds.heat_low_lem _ (heats k.combustion).1)
+  inferior_bounds = heat_bounds _ (heats k.combustion).1
 
   heats_ordered : HmInferior k ≤ HmSuperior k
   unfolding HmInferior HmSuperior
@@ -95,10 +92,11 @@ module _ (k : Contents) (a : Acceptable k) where
   unfolding S
   summation_high_lem = rw (over_entries _) (in_bounds.summation_high_lem _ (metering_place_lem k.metering))
 
-  -- T, D and A
   -- a number that is S is the same as a signed word
   pub summation_word : {s : ℤ} → s ≡ S k → to_z w64 (of_z w64 s) ≡ s
-  summation_word is = to_z-of_z (fits64 _ (rw is (omega (arith, summation_high_lem))))
+  summation_word is = to_z-of_z (fits_signed_from_abs w64 _ (rw is (omega (arith, summation_high_lem))))
+
+  -- T, D and A
 
   D-low : divisor_low ≤ D k
   unfolding D T
@@ -145,11 +143,26 @@ module _ (k : Contents) (a : Acceptable k) where
   real_of N D I h l =
       real_within 1 (nat_abs (S k)) (nat_abs (S9 k)) (omega (arith, summation_high_lem)) s9_within N (1 * D) I (within_wider half (51 over 100) _ _ (omega arith) (omega arith) (within_one h)) l
 
-  superior_ideal : ideal_calorific (HmSuperior k) (D k) ≤ ideal_calorific_high
-  superior_ideal = ideal_calorific_high_lem (HmSuperior k) (D k) superior_high D-low
+  -- a calorific value of a sum of heats within its bounds is between its own, and within 2 of its unit
+  record Calorific (Hm : ℕ) : Type 0 where
+    low : calorific_low ≤ real (ideal_calorific Hm (D k)) (Z k)
+    high : real (ideal_calorific Hm (D k)) (Z k) ≤ calorific_high
+    within : Within (whole 2) (real (ideal_calorific Hm (D k)) (Z k)) (unrounded.real (unrounded.ideal_calorific (whole Hm) (D k)) (unrounded.Z k))
 
-  inferior_ideal : ideal_calorific (HmInferior k) (D k) ≤ ideal_calorific_high
-  inferior_ideal = ideal_calorific_high_lem (HmInferior k) (D k) inferior_high D-low
+  calorific : (Hm : ℕ) → heat_low ≤ Hm → Hm ≤ heat_high → Calorific Hm
+  calorific Hm low high =
+      let ideal = ideal_calorific_high_lem Hm (D k) high D-low in
+      record {
+        low = real_low _ (Z k) Z-low Z-high calorific_low (ideal_calorific_low Hm (D k) low (omega (arith, D-low)) D-high);
+        high = real_high _ (Z k) Z-low calorific_high (omega (arith, ideal));
+        within = real_of _ _ _ (calorific_near Hm (D k) (omega (arith, D-low))) (omega (arith, ideal));
+      }
+
+  superior_calorific : Calorific (HmSuperior k)
+  superior_calorific = calorific _ superior_bounds.0 superior_bounds.1
+
+  inferior_calorific : Calorific (HmInferior k)
+  inferior_calorific = calorific _ inferior_bounds.0 inferior_bounds.1
 
   mass_ideal : ideal_density (M k) (D k) ≤ ideal_high
   mass_ideal = ideal_density_high (M k) (D k) mass_high_lem D-low
@@ -157,14 +170,6 @@ module _ (k : Contents) (a : Acceptable k) where
   relative_ideal : G k ≤ ideal_relative_high
   unfolding G
   relative_ideal = ideal_relative_high_lem (M k) (A k) mass_high_lem A-high
-
-  Hs-within : Within (whole 2) (Hs k) (unrounded.Hs k)
-  unfolding Hs
-  Hs-within = real_of _ _ _ (calorific_near (HmSuperior k) (D k) (omega (arith, D-low))) (omega (arith, superior_ideal))
-
-  Hi-within : Within (whole 2) (Hi k) (unrounded.Hi k)
-  unfolding Hi
-  Hi-within = real_of _ _ _ (calorific_near (HmInferior k) (D k) (omega (arith, D-low))) (omega (arith, inferior_ideal))
 
   rho_within : Within (whole 2) (rho k) (unrounded.rho k)
   unfolding rho
@@ -175,22 +180,6 @@ module _ (k : Contents) (a : Acceptable k) where
   d_within = real_of _ _ _ (relative_near (M k) (A k)) (omega (arith, relative_ideal))
 
   -- bounds of the properties
-  pub Hs-high : Hs k ≤ calorific_high
-  unfolding Hs
-  Hs-high = real_high _ (Z k) Z-low calorific_high (omega (arith, superior_ideal))
-
-  Hs-low : calorific_low ≤ Hs k
-  unfolding Hs
-  Hs-low = real_low _ (Z k) Z-low Z-high calorific_low (ideal_calorific_low (HmSuperior k) (D k) superior_low (omega (arith, D-low)) D-high)
-
-  Hi-high : Hi k ≤ calorific_bound
-  unfolding Hi
-  Hi-high = real_high _ (Z k) Z-low calorific_bound (omega (arith, inferior_ideal))
-
-  Hi-low : calorific_low ≤ Hi k
-  unfolding Hi
-  Hi-low = real_low _ (Z k) Z-low Z-high calorific_low (ideal_calorific_low (HmInferior k) (D k) inferior_low (omega (arith, D-low)) D-high)
-
   Hi-below : Hi k ≤ Hs k
   unfolding Hi Hs
   Hi-below =
@@ -214,34 +203,36 @@ module _ (k : Contents) (a : Acceptable k) where
   d_low = real_low _ (Z k) Z-low Z-high relative_low (ideal_relative_low (M k) (A k) mass_low_lem A-low)
 
   W-high : W k ≤ wobbe_bound
-  unfolding W r
-  W-high = wobbe_high (d k) d_low d_high (Hs k) Hs-high
+  unfolding W r Hs
+  W-high = wobbe_high (d k) d_low d_high (Hs k) superior_calorific.high
 
   W-low : wobbe_low ≤ W k
-  unfolding W r
-  W-low = wobbe_low_lem (d k) d_low d_high (Hs k) Hs-low
+  unfolding W r Hs
+  W-low = wobbe_low_lem (d k) d_low d_high (Hs k) superior_calorific.low
 
   W-within : Indexed 25 (W k) (unrounded.Hs k) (unrounded.d k)
-  unfolding W r
+  unfolding W r Hs
   W-within =
       let low = root_low_lem (d k) d_low d_high in
-      let high = wobbe_high (d k) d_low d_high (Hs k) Hs-high in
-      indexed 20 25 (Hs k) _ _ (d k) _ _ _ _ Hs-within d_within (root_of_lem (d k) d_low d_high) (wobbe_near (d k) d_low d_high (Hs k))
-      (omega (arith, low)) (omega (arith, low, high)) (omega (arith, wobbe_low_lem (d k) d_low d_high (Hs k) Hs-low)) (omega (arith, low))
+      let high = wobbe_high (d k) d_low d_high (Hs k) superior_calorific.high in
+      indexed 20 25 (Hs k) _ _ (d k) _ _ _ _ superior_calorific.within d_within (root_of_lem (d k) d_low d_high) (wobbe_near (d k) d_low d_high (Hs k))
+      (omega (arith, low)) (omega (arith, low, high)) (omega (arith, wobbe_low_lem (d k) d_low d_high (Hs k) superior_calorific.low)) (omega (arith, low))
 
   bounded : Bounded (six_of k)
+  unfolding Hs Hi
   bounded =
       record {
         Z = Z-high;
-        Hs = omega (arith, Hs-high);
-        Hi = Hi-high;
+        Hs = omega (arith, superior_calorific.high);
+        Hi = omega (arith, inferior_calorific.high);
         rho = rho_high;
         d = d_high;
         W = W-high;
       }
 
   floored : Floored (six_of k)
-  floored = record { Z = Z-low; Hs = Hs-low; Hi = Hi-low; rho = rho_low; d = d_low; W = W-low }
+  unfolding Hs Hi
+  floored = record { Z = Z-low; Hs = superior_calorific.low; Hi = inferior_calorific.low; rho = rho_low; d = d_low; W = W-low }
 
   index : W k ≡ wobbe (Hs k) (root_of (d k))
   unfolding W r
@@ -260,19 +251,12 @@ module _ (k : Contents) (a : Acceptable k) where
       (law (A k) 10132500 289626000 (D k) _ _ d_within rho_within)
 
   pub distances : Distances k (six_of k)
-  distances = record { Z = Z-within; Hs = Hs-within; Hi = Hi-within; rho = rho_within; d = d_within; W = W-within }
+  unfolding Hs Hi
+  distances = record { Z = Z-within; Hs = superior_calorific.within; Hi = inferior_calorific.within; rho = rho_within; d = d_within; W = W-within }
 
   -- the values per kilogram
   pub mass_pos : 0 < M k
   mass_pos = omega (arith, mass_low_lem)
-
-  pub superior_by_mass : HmSuperior k ≤ heat_by_mass * M k
-  unfolding HmSuperior M
-  superior_by_mass = rw (over_entries _, over_entries _) (heat_by_mass_lem _ (heats k.combustion).0 k.lines k.fractions)
-
-  pub inferior_by_mass : HmInferior k ≤ heat_by_mass * M k
-  unfolding HmInferior M
-  inferior_by_mass = rw (over_entries _, over_entries _) (heat_by_mass_lem _ (heats k.combustion).1 k.lines k.fractions)
 
   per_kilogram_within : (Hm : ℕ) → Within per_kilogram_distance (per_kilogram Hm (M k)) (unrounded_per_kilogram (whole Hm) (unrounded.M k))
   per_kilogram_within Hm =
@@ -283,8 +267,8 @@ module _ (k : Contents) (a : Acceptable k) where
   per_kilogram_shown bs e =
       record {
         answer = ap (mapped mass_basis_of) e;
-        superior_bounded = per_kilogram_high mass_pos superior_by_mass;
-        inferior_bounded = per_kilogram_high mass_pos inferior_by_mass;
+        superior_bounded = per_kilogram_high mass_pos superior_bounds.2;
+        inferior_bounded = per_kilogram_high mass_pos inferior_bounds.2;
         order = near_monotone _ _ (M k) mass_pos (mul-le-mul_right 1000000 heats_ordered);
         superior_within = per_kilogram_within (HmSuperior k);
         inferior_within = per_kilogram_within (HmInferior k);

@@ -117,10 +117,6 @@ module _ (ideal Z : ℕ) (low : compression_low ≤ Z) where
   pub real_low : Z ≤ 10 ^ 9 → (b : ℕ) → b ≤ ideal → b ≤ real ideal Z
   real_low high b h = at_least real_near (omega (arith, mul-le-mul_left b high))
 
--- what a step has made of an ideal value that is at most `most` is at most b
-pub step_high : (most b : ℕ) {i ideal Z v : ℕ} → i ≡ ideal → ideal ≤ most → compression_low ≤ Z → v ≡ real i Z → 10 ^ 9 * most ≤ compression_low * b → v ≤ b
-step_high most b {i} {ideal} {Z} e h low is fits = omega (arith, is, real_high i Z low b (omega arith))
-
 -- the index
 module _ (d : ℕ) (d_low : relative_low ≤ d) (d_high : d ≤ relative_bound) where
   pub root_of_lem : Root (root_of d) (d * 10 ^ 10)

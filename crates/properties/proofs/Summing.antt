@@ -4,19 +4,18 @@ use mathlib.Core.List.{List}
 use Prim.Native.Nat.{ℕ}
 use lib.IntN.{ℤ}
 use Rattle.records.specs.Order.{first_of}
-use Rattle.records.specs.Format.{Contents, metering_in, contents_in}
+use Rattle.records.specs.Format.{metering_in, contents_in}
 use Rattle.records.specs.Conditions.{record_order}
 use Rattle.records.proofs.Accepted.{acceptable}
 use Rattle.properties.specs.Chain.{HmSuperior, HmInferior, M, S}
-use Rattle.properties.specs.Accepted.{SumsOf, Summed}
+use Rattle.properties.specs.Accepted.{Summed}
 
-module _ (bs : List ℕ) (clear : first_of (record_order bs) ≡ 0) where
-  abbrev k : Contents
-  k = contents_in bs
-
-  module _ {superior inferior mass metering : ℕ} {summation : ℤ} (hs : superior ≡ HmSuperior k) (hi : inferior ≡ HmInferior k) (m : mass ≡ M k) (s : summation ≡ S k) (is : metering ≡ metering_in bs) where
-    pub sums_are : SumsOf k superior inferior mass summation metering
-    sums_are = record { superior_is = hs; inferior_is = hi; mass_is = m; summation_is = s; metering_is = is }
-
-    pub summed : Summed superior inferior mass summation metering
-    summed = record { gas = k; acceptable = acceptable bs clear; sums = sums_are }
+pub summed : (bs : List ℕ) → first_of (record_order bs) ≡ 0 → {superior inferior mass metering : ℕ} {summation : ℤ} → superior ≡ HmSuperior (contents_in bs)
+    → inferior ≡ HmInferior (contents_in bs) → mass ≡ M (contents_in bs) → summation ≡ S (contents_in bs) → metering ≡ metering_in bs
+    → Summed superior inferior mass summation metering
+summed bs clear hs hi m s is =
+    record {
+      gas = contents_in bs;
+      acceptable = acceptable bs clear;
+      sums = record { superior_is = hs; inferior_is = hi; mass_is = m; summation_is = s; metering_is = is };
+    }

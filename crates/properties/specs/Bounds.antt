@@ -6,15 +6,12 @@ use Rattle.rounding.specs.Fraction.{Within, whole}
 use Rattle.properties.specs.Chain.{temperature, divisor, air_factor, Six, wobbe, root_of}
 use Rattle.properties.specs.Quantities.{Bounded}
 
--- Hm, M and an ideal value that a step takes, of any gas, so that its products fit 64 bits
+-- Hm and M that a step takes, of any gas, so that its products fit 64 bits
 abbrev pub any_heat : ℕ
 any_heat = 10000000000000
 
 abbrev pub any_mass : ℕ
 any_mass = 1500000000000
-
-abbrev pub any_ideal : ℕ
-any_ideal = 10000000000
 
 -- D, at 0 and at 20 °C, and A, unit 10^-5
 abbrev pub divisor_low : ℕ

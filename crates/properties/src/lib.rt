@@ -37,10 +37,10 @@ pub fn properties_from(sums: Sums, metering: u8) -> Properties
 {
     let air = steps::air_factor(metering);
     let z = steps::compression_factor(sums.summation);
-    let hs = steps::calorific_value(sums.superior, metering, z);
-    let hi = steps::calorific_value(sums.inferior, metering, z);
-    let rho = steps::density(sums.mass, metering, z);
-    let d = steps::relative_density(sums.mass, air, z);
+    let hs = CalorificValue::real(steps::ideal_calorific_value(sums.superior, metering), z);
+    let hi = CalorificValue::real(steps::ideal_calorific_value(sums.inferior, metering), z);
+    let rho = Density::real(steps::ideal_density(sums.mass, metering), z);
+    let d = RelativeDensity::real(steps::ideal_relative_density(sums.mass, air), z);
     let w = steps::wobbe_index(hs, d);
     Properties {
         z,
@@ -53,6 +53,7 @@ pub fn properties_from(sums: Sums, metering: u8) -> Properties
 }
 
 // The properties of an accepted record.
+#[tactic(auto, using(crate::proofs::Summing::summed))]
 pub fn properties_in(accepted: &Record) -> Properties
     ensures { numbers result ≡ six_of (contents_in accepted.now.bytes.now) }
 {

@@ -1,27 +1,25 @@
 // The steps of document 01 from sums to properties, in its order and letters, and from sums to the values per kilogram.
 ghost use Rattle.std.specs.Prelude.{◌≡◌, ◌*◌, ◌^◌, ◌≤◌, ◌<◌, nat_abs};
 ghost use Rattle.rounding.specs.Near.{near};
-ghost use Rattle.components.specs.Bounds.{heat_high, mass_high, heat_by_mass, summation_high};
-ghost use Rattle.properties.specs.Bounds.{any_heat, any_mass, any_ideal, air_high, compression_low, calorific_high, relative_low, by_air};
+ghost use Rattle.components.specs.Bounds.{heat_by_mass, summation_high};
+ghost use Rattle.properties.specs.Bounds.{any_heat, any_mass, air_high, calorific_high, relative_low, by_air};
 ghost use Rattle.properties.specs.Quantities.{calorific_bound, relative_bound};
-ghost use Rattle.properties.specs.Chain.{for_metering, temperature, divisor, air_factor, tenth, compression, ideal_calorific, real, ideal_density, ideal_relative, root_of, wobbe};
+ghost use Rattle.properties.specs.Chain.{for_metering, temperature, divisor, air_factor, tenth, compression, ideal_calorific, ideal_density, ideal_relative, root_of, wobbe};
 ghost use Rattle.properties.specs.PerKilogram.{per_kilogram};
 
 use super::quantities::{
-    CalorificValue, CompressionFactor, Density, MassCalorificValue, RelativeDensity, WobbeIndex,
+    CalorificValue, CompressionFactor, MassCalorificValue, RelativeDensity, WobbeIndex,
 };
 
-// A number for 0, 15 or 20 °C metering.
+// A number for 0, 15 or 20 °C metering; any other number counts as 20. A type of the three would ask more of the callers of this file.
 pub fn for_metering(at_0: u64, at_15: u64, at_20: u64, metering: u8) -> u64
     ensures { result ≡ for_metering at_0 at_15 at_20 metering }
 {
-    if metering == 0 {
-        return at_0;
+    match metering {
+        0 => at_0,
+        15 => at_15,
+        _ => at_20,
     }
-    if metering == 15 {
-        return at_15;
-    }
-    at_20
 }
 
 // The whole number nearest to n / D, from the metering temperature in °C. Each D has a division of its own: the compiler turns a division
@@ -29,13 +27,11 @@ pub fn for_metering(at_0: u64, at_15: u64, at_20: u64, metering: u8) -> u64
 fn nearest_over_d(n: u64, metering: u8) -> u64
     ensures { result ≡ near n (divisor (temperature metering)) }
 {
-    if metering == 0 {
-        return rounding::nearest(n, 831451 * 27315);
+    match metering {
+        0 => rounding::nearest(n, 831451 * 27315),
+        15 => rounding::nearest(n, 831451 * 28815),
+        _ => rounding::nearest(n, 831451 * 29315),
     }
-    if metering == 15 {
-        return rounding::nearest(n, 831451 * 28815);
-    }
-    rounding::nearest(n, 831451 * 29315)
 }
 
 // A, the compression factor of air, unit 10^-5, from the metering temperature in °C.
@@ -64,14 +60,6 @@ pub fn compression_factor(s: i64) -> CompressionFactor
     ))
 }
 
-// The real value of a quantity from its ideal one.
-fn real(ideal: u64, z: CompressionFactor) -> u64
-    requires { (ideal ≤ any_ideal) × (0 < z.value) }
-    ensures { result ≡ real ideal z.value }
-{
-    rounding::nearest(ideal * CompressionFactor::SCALE, z.value())
-}
-
 // 3. The ideal calorific value, J/m³.
 pub fn ideal_calorific_value(hm: u64, metering: u8) -> u64
     requires { hm ≤ any_heat }
@@ -80,28 +68,12 @@ pub fn ideal_calorific_value(hm: u64, metering: u8) -> u64
     nearest_over_d(hm * 1013250, metering)
 }
 
-// The calorific value.
-pub fn calorific_value(hm: u64, metering: u8, z: CompressionFactor) -> CalorificValue
-    requires { (hm ≤ heat_high) × (compression_low ≤ z.value) }
-    ensures { result.value ≡ real (ideal_calorific hm (divisor (temperature metering))) z.value }
-{
-    CalorificValue::new(real(ideal_calorific_value(hm, metering), z))
-}
-
-// 4. The ideal density, unit 10^-8 kg/m³.
+// 4. The ideal density, unit 10^-8 kg/m³: step 3 with another number. A function for both would name neither quantity.
 pub fn ideal_density(m: u64, metering: u8) -> u64
     requires { m ≤ any_mass }
     ensures { result ≡ ideal_density m (divisor (temperature metering)) }
 {
     nearest_over_d(m * 10132500, metering)
-}
-
-// The density.
-pub fn density(m: u64, metering: u8, z: CompressionFactor) -> Density
-    requires { (m ≤ mass_high) × (compression_low ≤ z.value) }
-    ensures { result.value ≡ real (ideal_density m (divisor (temperature metering))) z.value }
-{
-    Density::new(real(ideal_density(m, metering), z))
 }
 
 // 5. G, the ideal relative density, unit 10^-8; without the factor of air where `air` is 100,000.
@@ -112,15 +84,8 @@ pub fn ideal_relative_density(m: u64, air: u64) -> u64
     rounding::nearest(m * air, 289626000)
 }
 
-// The relative density.
-pub fn relative_density(m: u64, air: u64, z: CompressionFactor) -> RelativeDensity
-    requires { (m ≤ mass_high) × (air ≤ air_high) × (compression_low ≤ z.value) }
-    ensures { result.value ≡ real (ideal_relative m air) z.value }
-{
-    RelativeDensity::new(real(ideal_relative_density(m, air), z))
-}
-
 // The index of a calorific value and a relative density, as a number.
+#[tactic(auto, using(crate::proofs::StepBounds::root_low_lem))]
 pub fn index(hs: u64, d: u64) -> u64
     requires { (hs ≤ calorific_bound) × (relative_low ≤ d) × (d ≤ relative_bound) }
     ensures { result ≡ wobbe hs (root_of d) }
@@ -130,6 +95,7 @@ pub fn index(hs: u64, d: u64) -> u64
 }
 
 // 6. The Wobbe index.
+#[tactic(auto, using(crate::proofs::StepBounds::wobbe_high))]
 pub fn wobbe_index(hs: CalorificValue, d: RelativeDensity) -> WobbeIndex
     requires { (hs.value ≤ calorific_high) × (relative_low ≤ d.value) × (d.value ≤ relative_bound) }
     ensures { result.value ≡ wobbe hs.value (root_of d.value) }
@@ -138,6 +104,7 @@ pub fn wobbe_index(hs: CalorificValue, d: RelativeDensity) -> WobbeIndex
 }
 
 // A calorific value per kilogram, from Hm and M.
+#[tactic(auto, using(crate::proofs::StepBounds::per_kilogram_high))]
 pub fn per_kilogram(hm: u64, m: u64) -> MassCalorificValue
     requires { (hm ≤ any_heat) × (0 < m) × (hm ≤ heat_by_mass * m) }
     ensures { result.value ≡ per_kilogram hm m }
@@ -149,6 +116,7 @@ pub fn per_kilogram(hm: u64, m: u64) -> MassCalorificValue
 pub const AIR_DISTANCE: u64 = 5;
 
 // d times the density of air, unit 10^-8 kg/m³, from the metering temperature in °C.
+#[tactic(auto, using(crate::proofs::StepBounds::air_density_lem))]
 pub fn by_air(metering: u8, d: u64) -> u64
     requires { d ≤ relative_bound }
     ensures { result ≡ by_air metering d }

@@ -7,12 +7,13 @@ use native.Mathlib.Omega.{arith}
 use borrow.Author.Tests.{ltb-false, leb-false}
 use lib.Dec.{ltb}
 use lib.ListN.{length, get_or}
+use Rattle.std.proofs.lemmas.Bool.{or_parts}
 use Rattle.components.specs.Composition.{Ascending, total}
 use Rattle.records.specs.Order.{first_of}
 use Rattle.records.specs.Format.{lines_in, fractions_in, contents_in}
 use Rattle.records.specs.Conditions.{least_sum, line_breaks, content_order, record_order}
 use Rattle.records.specs.Accepted.{Acceptable, AcceptedIsAcceptable}
-use Rattle.records.proofs.OrderLaws.{unmet, neither, decided_accepted}
+use Rattle.records.proofs.OrderLaws.{unmet, decided_accepted}
 use Rattle.records.specs.Counted.{count_lines, count_fractions}
 use Rattle.records.proofs.RoundTrips.{accepted_content}
 
@@ -20,8 +21,8 @@ ascends : (before : ℕ) (ls : List ℕ) → line_breaks before ls ≡ false →
 unfolding line_breaks Ascending
 ascends before [] h = tt
 ascends before (l ∷ ls) h =
-    let e = neither _ _ h in
-    let f = neither _ _ e.1 in
+    let e = or_parts _ _ h in
+    let f = or_parts _ _ e.1 in
     (leb-false _ _ e.0, ltb-false _ _ f.0, ascends l ls f.1)
 
 in_table : (before : ℕ) (ls : List ℕ) → Ascending before ls → (k : ℕ) → k < length ls → (1 ≤ get_or ls k 0) × (get_or ls k 0 ≤ 55)
@@ -33,7 +34,7 @@ in_table before (l ∷ ls) a (suc k) h = in_table l ls a.2 k (omega arith)
 pub acceptable : (bs : List ℕ) → first_of (record_order bs) ≡ 0 → Acceptable (contents_in bs)
 acceptable bs h =
     let o = unmet (content_order (lines_in bs) (fractions_in bs)) tt (accepted_content bs h) in
-    let sum = neither (ltb (total (fractions_in bs)) least_sum) _ (o 9) in
+    let sum = or_parts (ltb (total (fractions_in bs)) least_sum) _ (o 9) in
     let up = ascends 0 (lines_in bs) (o 7) in
     record {
       composition = record {

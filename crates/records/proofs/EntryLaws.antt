@@ -5,8 +5,8 @@ use Prim.Native.Nat.{ℕ, zero, suc, ◌+◌, ◌*◌, ◌≤◌, ◌<◌}
 use native.Mathlib.Nat.{zero-add, add_assoc}
 use native.Mathlib.Numerals.{add-one}
 use native.Mathlib.Omega.{arith}
-use lib.ListN.{length, get_or, take, drop, set, replicate, length-append, length-drop}
-use lib.Seq.{paste-suc, get_or-drop, take_all, take-length, length-take-le}
+use lib.ListN.{length, get_or, take, drop, set, replicate}
+use lib.Seq.{paste-suc, get_or-drop, take-length, length-take-le}
 use Rattle.records.specs.Format.{entries_at, record_length, number4, count_in, entries_in, lines_of, fractions_of, lines_in, fractions_in, entry_bytes, entries_bytes, placed}
 use Rattle.records.specs.Answers.{padded}
 use Rattle.records.specs.Counted.{count_lines}
@@ -50,9 +50,6 @@ within bs k f h l = let e = count_lines bs in record { counted = omega (arith, e
 abbrev pub filled : List ℕ → ℕ → List ℕ
 filled s k = take k s ++ drop k (replicate 55 0)
 
-pub filled_length : (s array : List ℕ) (k : ℕ) → k ≤ length s → k ≤ 55 → array ≡ filled s k → length array ≡ 55
-filled_length s array k hs hk e = rw e (simp (length-append, length-drop) (omega (arith, length-take-le k s hs)))
-
 -- the next number is filled in
 pub fill : (s array : List ℕ) (k v : ℕ) → k < length s → k < 55 → array ≡ filled s k → v ≡ get_or s k 0 → set array k v ≡ filled s (k + 1)
 fill s array k v hs hd e f = rw (e, f, add-one) (simp zero-add at (paste-suc (replicate 55 0) 0 s k 0 (rw zero-add hd) hs))
@@ -94,7 +91,3 @@ next_written old now at ls xs k h e r inv =
     let n = length_entries (take k ls) (take k xs) (tl ∙ sym tx) in
     rw (inv, entries_more ls xs k h (omega arith))
     (placed_after old (entries_bytes (take k ls) (take k xs)) (entry_bytes (get_or ls k 0) (get_or xs k 0)) at (at + 5 * k) r (omega arith))
-
-pub all_written : (old : List ℕ) (at : ℕ) (ls xs : List ℕ) (k : ℕ) → length ls ≤ k → length ls ≡ length xs
-    → written old at ls xs k ≡ placed old at (entries_bytes ls xs)
-all_written old at ls xs k h e = rw (take_all k ls h, take_all k xs (omega arith))

@@ -10,11 +10,12 @@ use borrow.Author.Tests.{le-ltb, ltb-false, ne_eqb}
 use lib.Dec.{eqb}
 use lib.ListN.{length, get_or, take}
 use lib.Seq.{take_all, get_or-take, length-take-le}
+use Rattle.std.proofs.lemmas.Bool.{or_parts}
 use Rattle.records.specs.Order.{first_of, refused, decided}
 use Rattle.records.specs.Format.{record_length, combustion_in, metering_in, count_in, lines_in, fractions_in, contents_in}
 use Rattle.records.specs.Conditions.{mark_differs, version_differs, pair_refused, count_outside, length_differs, fields_order, head_order, content_order}
 use Rattle.records.specs.Calls.{reading_of, enough, FirstBytesDecideReading}
-use Rattle.records.proofs.OrderLaws.{stops, refuses, neither}
+use Rattle.records.proofs.OrderLaws.{stops, refuses}
 
 -- the sixth condition holds where the fifth does not
 record SixAfterFive (five six : Bool) : Type 0 where
@@ -39,7 +40,7 @@ same false false false false e f h k = rw (h.holds refl, k.holds refl)
 -- a length above that of any record
 long : (size n : ℕ) → enough ≤ size → SixAfterFive (count_outside n) (not (eqb size (record_length n)))
 long size n h =
-    record { holds = λ e. let few = ltb-false 55 n (neither (eqb n 0) _ e).1 in ap not (ne_eqb size (record_length n) (λ q. omega arith)) }
+    record { holds = λ e. let few = ltb-false 55 n (or_parts (eqb n 0) _ e).1 in ap not (ne_eqb size (record_length n) (λ q. omega arith)) }
 
 -- the number of the head, of 8 bytes or more
 number : List ℕ → ℕ

@@ -6,11 +6,12 @@ use Prim.Native.Nat.{ℕ, ◌≤◌}
 use native.Mathlib.Omega.{arith}
 use borrow.Author.Tests.{ltb-false, not-false, eqb-true, eqb-false}
 use lib.ListN.{length}
+use Rattle.std.proofs.lemmas.Bool.{or_parts}
 use Rattle.records.specs.Order.{first_of}
 use Rattle.records.specs.Format.{Contents, head_length, record_length, combustion_in, metering_in, count_in, lines_in, fractions_in}
 use Rattle.records.specs.Counted.{count_lines}
 use Rattle.records.specs.Conditions.{permitted, mark_differs, version_differs, count_outside, head_order, content_order, record_order, start_order, writer_order}
-use Rattle.records.proofs.OrderLaws.{unmet, clear_first, neither}
+use Rattle.records.proofs.OrderLaws.{unmet, clear_first}
 
 -- where 5 does not hold
 pub record Count (n : ℕ) : Type 0 where
@@ -18,7 +19,7 @@ pub record Count (n : ℕ) : Type 0 where
   pub few : n ≤ 55
 
 count : (n : ℕ) → count_outside n ≡ false → Count n
-count n h = let e = neither _ _ h in record { some = eqb-false _ _ e.0; few = ltb-false _ _ e.1 }
+count n h = let e = or_parts _ _ h in record { some = eqb-false _ _ e.0; few = ltb-false _ _ e.1 }
 
 -- where none of 1 to 6 holds
 pub record Head (bs : List ℕ) : Type 0 where
@@ -40,9 +41,6 @@ head bs e =
       entries = count _ (h 5);
       exact = eqb-true _ _ (not-false _ (h 6));
     }
-
-pub holds : {bs : List ℕ} → Head bs → record_length (count_in bs) ≤ length bs
-holds h = omega (arith, h.exact)
 
 -- what the writer needs: as many fractions as line numbers, at most 55, and room for the record
 pub record Room (k : Contents) (room : ℕ) : Type 0 where

@@ -4,7 +4,6 @@ mod Placing
 pub mod Heads
 pub mod RoundTrips
 mod Scans
-mod Digits
 pub mod EntryLaws
 mod Reading
 pub mod Accepted

@@ -1,6 +1,6 @@
 -- Laws of orders of refusals: which part of an order decides, what is known where no condition holds, and what a call then gives.
 use mathlib.Core.Path.{◌≡◌, refl, sym, ap, ◌∙◌}
-use mathlib.Core.Bool.{Bool, true, false, ◌&&◌, ◌||◌, cond}
+use mathlib.Core.Bool.{Bool, true, false, ◌&&◌, cond}
 use mathlib.Core.List.{[], ◌∷◌, ◌++◌}
 use Prim.Native.Nat.{ℕ, zero, suc}
 use native.Mathlib.Omega.{arith}
@@ -9,7 +9,7 @@ use Rattle.std.specs.Prelude.{Result, Ok, Err}
 use Rattle.std.specs.Result.{IsErrAnd}
 use Rattle.records.specs.declared.refusal.Refusal.{Refusal}
 use Rattle.records.specs.Order.{Order, first_of, refused, accepted, decided, otherwise, mapped}
-use Rattle.records.specs.Refusals.{Verdict, number, number_in, outcome}
+use Rattle.records.specs.Refusals.{Verdict, number, number_in}
 use Rattle.records.specs.Answers.{Gives}
 
 -- no number of the order is 0
@@ -57,10 +57,6 @@ unmet ((zero, holds) ∷ rest) t h n = elim t [ ]
 unmet ((suc m, true) ∷ rest) t h n = let f : ⊥ = omega arith in elim f [ ]
 unmet ((suc m, false) ∷ rest) t h n = one_of (eqb (suc m) n) (condition_of n rest) (unmet rest t h n)
 
-pub neither : (a b : Bool) → (a || b) ≡ false → (a ≡ false) × (b ≡ false)
-neither true b h = (h, cc)
-neither false b h = (refl, h)
-
 pub both : (a b : Bool) → (a && b) ≡ true → (a ≡ true) × (b ≡ true)
 both true b h = (refl, h)
 both false b h = (h, cc)
@@ -79,29 +75,17 @@ module _ {A : Type 0} where
   refuses zero answer h = elim (h refl) [ ]
   refuses (suc n) answer h = refl
 
-  -- the outcome of an answer whose number decides it
-  module _ {B : Type 0} (f : B → A) where
-    pub refused_by : (e : Refusal) {n : ℕ} (answer : A) → number e ≡ n → outcome f (Err e) ≡ decided n answer
-    refused_by e answer h = rw (← h) (sym (refuses (number e) answer (some_number e)))
-
-    pub accepted_by : (r : Result B Refusal) {n : ℕ} (answer : A) → number_in r ≡ n → ((b : B) → r ≡ Ok b → f b ≡ answer) → outcome f r ≡ decided n answer
-    accepted_by (Ok b) answer h is = rw (← h) (ap accepted (is b refl))
-    accepted_by (Err e) answer h is = refused_by e answer h
-
   -- beside a refusal
   pub beside : (n : ℕ) (answer other : A) → (n ≡ 0 → ⊥) → other ≡ otherwise other (decided n answer)
   beside zero answer other h = elim (h refl) [ ]
   beside (suc n) answer other h = refl
 
-  -- a refusal and what stood before it, and an acceptance and its answer
+  -- a refusal, and what stood before it
   pub gives_refused : (v : Verdict) (e : Refusal) {n : ℕ} (answer other : A) → IsErrAnd v (λ y. y ≡ e) → number e ≡ n → Gives (decided n answer) other v other
   gives_refused (Ok _) e answer other is h = absurd is
   gives_refused (Err y) e answer other is h =
       let m = ap number is ∙ h in
-      record { means = refused_by {B = Unit} (λ _. other) y answer m; stands = rw (← m) (beside (number y) answer other (some_number y)) }
-
-  pub gives_accepted : {n : ℕ} (answer other : A) → 0 ≡ n → Gives (decided n answer) other (Ok tt) answer
-  gives_accepted answer other h = rw (← h) (record { means = refl; stands = refl })
+      record { means = rw (← m) (sym (refuses (number y) answer (some_number y))); stands = rw (← m) (beside (number y) answer other (some_number y)) }
 
   -- what an outcome says of the number
   pub decided_accepted : (n : ℕ) (answer value : A) → decided n answer ≡ accepted value → (n ≡ 0) × (answer ≡ value)

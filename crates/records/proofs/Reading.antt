@@ -9,5 +9,5 @@ use Rattle.records.specs.Answers.{Reads, padded, held}
 use Rattle.records.proofs.OrderLaws.{mapped_decided}
 
 pub reads : (bs lines fractions : List ℕ) → lines ≡ padded (lines_in bs) → fractions ≡ padded (fractions_in bs) → 0 ≡ first_of (record_order bs)
-    → Reads bs (Ok (record { combustion = combustion_in bs; metering = metering_in bs; count = count_in bs; lines = lines; fractions = fractions }))
+    → Reads bs (Ok (record { pair = record { combustion = combustion_in bs; metering = metering_in bs }; count = count_in bs; lines = lines; fractions = fractions }))
 reads bs lines fractions hl hx e = rw (mapped_decided held (first_of (record_order bs)) (contents_in bs), ← e, hl, hx, count_lines bs) refl

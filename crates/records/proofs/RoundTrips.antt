@@ -8,6 +8,8 @@ use borrow.Author.Tests.{le-ltb, eq-eqb, ne_eqb, ltb-false, not-false, eqb-true}
 use lib.Dec.{eqb, ltb}
 use lib.ListN.{length, get_or, take, drop, take-append-drop, length-drop}
 use lib.Seq.{take_at, take-suc, get_or-drop}
+use Rattle.std.proofs.lemmas.Nat.{from_le_bytes-to_le_bytes_4, le_bytes_4}
+use Rattle.std.proofs.lemmas.Bool.{and_parts, or_parts}
 use Rattle.components.specs.Composition.{most_sum, total}
 use Rattle.records.specs.Order.{Order, first_of, accepted, decided}
 use Rattle.records.specs.Format.{Contents, Bytes, entries_at, record_length, number4, combustion_in, metering_in, count_in, entries_in, lines_of, fractions_of, lines_in, fractions_in, contents_in, head_bytes, entry_bytes, entries_bytes, bytes_of, placed}
@@ -15,10 +17,9 @@ use Rattle.records.specs.Conditions.{least_sum, head_order, content_order, recor
 use Rattle.records.specs.Calls.{reading_of}
 use Rattle.records.specs.Answers.{padded}
 use Rattle.records.specs.RoundTrips.{AnswerHoldsContents, FillsItsBytes, ReadThenWritten, WrittenThenRead}
-use Rattle.records.proofs.OrderLaws.{passes, clear_first, clear_second, unmet, neither, both, decided_accepted}
+use Rattle.records.proofs.OrderLaws.{passes, clear_first, clear_second, unmet, decided_accepted}
 use Rattle.records.proofs.Heads.{Head, head, Start, start, room_of}
 use Rattle.records.proofs.Placing.{placed_front, placed_others, placed_length}
-use Rattle.records.proofs.Digits.{digit_0, digit_1, digit_2, digit_3, from_digits}
 use Rattle.records.proofs.EntryLaws.{length_entries}
 use Rattle.records.specs.Counted.{count_lines, count_fractions}
 
@@ -36,7 +37,15 @@ take_firsts (suc n) l h = take-suc l n 0 h ∙ ap (λ (t : List ℕ). t ++ (get_
 entry_again : (es : List ℕ) → Bytes es → 5 ≤ length es → entry_bytes (get_or es 0 0) (number4 es 1) ≡ take 5 es
 unfolding firsts
 entry_again es b h =
-    rw (take_firsts 5 es h, digit_0 _ _ _ _ (b 1) (b 2) (b 3) (b 4), digit_1 _ _ _ _ (b 1) (b 2) (b 3) (b 4), digit_2 _ _ _ _ (b 1) (b 2) (b 3) (b 4), digit_3 _ _ _ _ (b 1) (b 2) (b 3) (b 4))
+    rw (take_firsts 5 es h)
+    (ap (λ (t : List ℕ). get_or es 0 0 ∷ t) (le_bytes_4 (get_or es 1 0 ∷ get_or es 2 0 ∷ get_or es 3 0 ∷ get_or es 4 0 ∷ []) (number4 es 1) refl is_byte (omega arith)))
+  where
+    is_byte : (i : ℕ) → get_or (get_or es 1 0 ∷ get_or es 2 0 ∷ get_or es 3 0 ∷ get_or es 4 0 ∷ []) i 0 < 256
+    is_byte zero = b 1
+    is_byte (suc zero) = b 2
+    is_byte (suc (suc zero)) = b 3
+    is_byte (suc (suc (suc zero))) = b 4
+    is_byte (suc (suc (suc (suc i)))) = omega arith
 
 entries_again : (n : ℕ) (es : List ℕ) → Bytes es → length es ≡ 5 * n → entries_bytes (lines_of n es) (fractions_of n es) ≡ es
 unfolding lines_of fractions_of entries_bytes
@@ -51,8 +60,8 @@ entries_again (suc n) es b e =
 head_again : (bs : List ℕ) → Head bs → take entries_at bs ≡ head_bytes (combustion_in bs) (metering_in bs) (count_in bs)
 unfolding firsts
 head_again bs h =
-    let m = both (eqb (get_or bs 0 0) 71 && eqb (get_or bs 1 0) 67) (eqb (get_or bs 2 0) 82) (not-false _ h.mark) in
-    let m' = both (eqb (get_or bs 0 0) 71) (eqb (get_or bs 1 0) 67) m.0 in
+    let m = and_parts (eqb (get_or bs 0 0) 71 && eqb (get_or bs 1 0) 67) (eqb (get_or bs 2 0) 82) (not-false _ h.mark) in
+    let m' = and_parts (eqb (get_or bs 0 0) 71) (eqb (get_or bs 1 0) 67) m.0 in
     let e₀ : get_or bs 0 0 ≡ 71 = eqb-true _ _ m'.0 in
     let e₁ : get_or bs 1 0 ≡ 67 = eqb-true _ _ m'.1 in
     let e₂ : get_or bs 2 0 ≡ 82 = eqb-true _ _ m.1 in
@@ -127,7 +136,9 @@ unfolding fractions_of entries_bytes total
 fractions_again [] [] e h = refl
 fractions_again [] (x ∷ xs) e h = let f : ⊥ = omega arith in elim f [ ]
 fractions_again (l ∷ ls) [] e h = let f : ⊥ = omega arith in elim f [ ]
-fractions_again (l ∷ ls) (x ∷ xs) e h = rw (from_digits x (omega arith), fractions_again ls xs (omega arith) (omega arith))
+fractions_again (l ∷ ls) (x ∷ xs) e h =
+    let four : number4 (entry_bytes l x) 1 ≡ x = omega (arith, from_le_bytes-to_le_bytes_4 x (omega arith)) in
+    rw (four, fractions_again ls xs (omega arith) (omega arith))
 
 -- contents that the writer has accepted
 module _ (k : Contents) (room : ℕ) (h : first_of (writer_order k room) ≡ 0) where
@@ -144,7 +155,7 @@ module _ (k : Contents) (room : ℕ) (h : first_of (writer_order k room) ≡ 0) 
   content_clear = clear_first content last tt (clear_second (start_order k) (content ++ last) tt h)
 
   sum_inside : total k.fractions ≤ most_sum
-  sum_inside = ltb-false most_sum (total k.fractions) (neither (ltb (total k.fractions) least_sum) _ (unmet content tt content_clear 9)).1
+  sum_inside = ltb-false most_sum (total k.fractions) (or_parts (ltb (total k.fractions) least_sum) _ (unmet content tt content_clear 9)).1
 
   contents_again : contents_in (bytes_of k) ≡ k
   contents_again = rw (lines_again k.lines k.fractions started.same, fractions_again k.lines k.fractions started.same (omega (arith, sum_inside)))

@@ -1,5 +1,5 @@
 -- The entry scan over lists: what holds of the entries before an index, and what is left from it on.
-use mathlib.Core.Path.{◌≡◌, refl, sym, ◌∙◌}
+use mathlib.Core.Path.{◌≡◌, sym, ◌∙◌}
 use mathlib.Core.Bool.{Bool, true, false, ◌||◌, cond, or_assoc, or-false}
 use mathlib.Core.List.{List}
 use mathlib.Core.Logic.{◌⊎◌, inl, inr}
@@ -11,11 +11,11 @@ use borrow.Author.Tests.{leb-false, eq-eqb, ne_eqb}
 use lib.Dec.{T, eqb, eqb→eq, leb, ltb}
 use lib.ListN.{length, get_or, drop, drop_of_length-le}
 use lib.Seq.{drop-cons}
+use Rattle.std.proofs.lemmas.Bool.{or_parts}
 use Rattle.components.specs.Composition.{total, fraction_for}
 use Rattle.components.proofs.SumLaws.{total_step}
 use Rattle.records.specs.Order.{first_of}
 use Rattle.records.specs.Conditions.{methane, water, line_breaks, fraction_zero, sum_outside, methane_low, above_limit, any_above, water_high, limits_order, lines_order, fractions_order}
-use Rattle.records.proofs.OrderLaws.{unmet, neither}
 
 -- the line number of an entry decides 7, or the entries after it do
 line_step : (ls : List ℕ) (before k : ℕ) → k < length ls →
@@ -28,9 +28,6 @@ pub record Ascended (ls : List ℕ) (before k : ℕ) : Type 0 where
   pub within : k ≤ length ls
   pub lines : line_breaks 0 ls ≡ line_breaks before (drop k ls)
 
-pub none_passed : (ls : List ℕ) → Ascended ls 0 0
-none_passed ls = record { within = omega arith; lines = refl }
-
 module _ {ls : List ℕ} {before k : ℕ} (a : Ascended ls before k) where
   module _ (h : k < length ls) where
     pub breaks_here : (leb (get_or ls k 0) before || ltb 55 (get_or ls k 0)) ≡ true → 7 ≡ first_of (lines_order ls)
@@ -42,10 +39,6 @@ module _ {ls : List ℕ} {before k : ℕ} (a : Ascended ls before k) where
   pub all_passed : length ls ≤ k → 0 ≡ first_of (lines_order ls)
   unfolding line_breaks
   all_passed h = rw (a.lines, drop_of_length-le ls h)
-
--- 7 does not hold
-pub no_line_breaks : (ls : List ℕ) {r : ℕ} → r ≡ first_of (lines_order ls) → r ≡ 0 → line_breaks 0 ls ≡ false
-no_line_breaks ls e z = unmet (lines_order ls) tt (sym e ∙ z) 7
 
 -- the fraction of a line is that of an entry passed; or 0 is noted, and it is that of the entries left
 abbrev Found : ℕ → List ℕ → List ℕ → ℕ → ℕ → ℕ → Type 0
@@ -64,20 +57,6 @@ pub record Noted (ls xs : List ℕ) (sum of_methane : ℕ) (above : Bool) (of_wa
   pub methane_found : Found methane ls xs before of_methane k
   pub any_above_lem : any_above ls xs ≡ (above || any_above (drop k ls) (drop k xs))
   pub water_found : Found water ls xs before of_water k
-
-pub nothing_noted : (ls xs : List ℕ) → line_breaks 0 ls ≡ false → Noted ls xs 0 0 false 0 0
-nothing_noted ls xs h =
-    record {
-      within = omega arith;
-      small = omega arith;
-      before = 0;
-      lines = h;
-      zeros = refl;
-      whole = omega arith;
-      methane_found = inr (refl, refl);
-      any_above_lem = refl;
-      water_found = inr (refl, refl);
-    }
 
 -- one more entry, whose line number is above the one before
 found_step : (line l x before noted rest whole : ℕ) (is : Bool) → (T is → l ≡ line) → before < l
@@ -106,7 +85,7 @@ module _ {ls xs : List ℕ} {sum of_methane : ℕ} {above : Bool} {of_water k : 
 
   -- the line number does not break 7, and none after it does
   lines_here : ((leb l n.before || ltb 55 l) ≡ false) × (line_breaks l (drop (k + 1) ls) ≡ false)
-  lines_here = neither _ _ (sym (line_step ls n.before k hl) ∙ n.lines)
+  lines_here = or_parts _ _ (sym (line_step ls n.before k hl) ∙ n.lines)
 
   left : (line : ℕ) → fraction_for line (drop k ls) (drop k xs) ≡ cond (eqb l line) x (fraction_for line (drop (k + 1) ls) (drop (k + 1) xs))
   unfolding fraction_for
@@ -114,7 +93,7 @@ module _ {ls xs : List ℕ} {sum of_methane : ℕ} {above : Bool} {of_water k : 
 
   found : (line noted : ℕ) → Found line ls xs n.before noted k → Found line ls xs l (cond (eqb l line) x noted) (k + 1)
   found line noted f =
-      found_step line l x n.before noted _ _ (eqb l line) (λ t. eqb→eq l line t) (leb-false _ _ (neither _ _ lines_here.0).0) (rw (left line) at f)
+      found_step line l x n.before noted _ _ (eqb l line) (λ t. eqb→eq l line t) (leb-false _ _ (or_parts _ _ lines_here.0).0) (rw (left line) at f)
 
   pub next_noted : (x ≡ 0 → ⊥) → x < 2 ^ 32
       → Noted ls xs (sum + x) (cond (eqb l methane) x of_methane) (above || above_limit l x) (cond (eqb l water) x of_water) (k + 1)

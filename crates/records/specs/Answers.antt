@@ -37,8 +37,7 @@ padded l = l ++ drop (length l) (replicate 55 0)
 abbrev pub held : Contents → Analysis
 held k =
     record {
-      combustion = k.combustion;
-      metering = k.metering;
+      pair = record { combustion = k.combustion; metering = k.metering };
       count = length k.lines;
       lines = padded k.lines;
       fractions = padded k.fractions;

@@ -18,7 +18,7 @@ FillsItsBytes = (k : Contents) (old new : List ℕ) → writing_of k old ≡ acc
 
 -- what the writer is given of an answer of the reader: its pair, and the first count numbers of both arrays
 abbrev pub contents_of : Analysis → Contents
-contents_of a = contents a.combustion a.metering (take a.count a.lines) (take a.count a.fractions)
+contents_of a = contents a.pair.combustion a.pair.metering (take a.count a.lines) (take a.count a.fractions)
 
 -- of an accepted record these are its contents
 abbrev pub AnswerHoldsContents : Type 0

@@ -4,9 +4,10 @@ ghost use Rattle.records.specs.Format.{contents, head_length, entries_at, record
 ghost use Rattle.records.specs.Answers.{padded};
 
 use super::entries::Entries;
+use super::pair::Pair;
 
 // The version of a record.
-pub const VERSION: u8 = 1;
+pub const VERSION: u16 = 1;
 
 // The length of the head, from the mark to the entry count.
 pub const HEAD_LENGTH: usize = 8;
@@ -23,11 +24,11 @@ pub fn record_length(n: usize) -> usize
 }
 
 // The 2-byte number at an offset.
-pub fn number_2(bytes: &[u8], at: usize) -> u32
+pub fn number_2(bytes: &[u8], at: usize) -> u16
     requires { at + 2 ≤ length bytes.now }
     ensures { result ≡ number2 bytes.now at }
 {
-    u32::from(u16::from_le_bytes([bytes[at], bytes[at + 1]]))
+    u16::from_le_bytes([bytes[at], bytes[at + 1]])
 }
 
 // The 4-byte number at an offset.
@@ -51,18 +52,22 @@ pub fn read_entries<E: Entries>(entries: &E, lines: &mut [u8; 55], fractions: &m
 }
 
 // The bytes of a record before its entries.
-fn put_head(out: &mut [u8], combustion: u8, metering: u8, n: u8)
+fn put_head(out: &mut [u8], pair: Pair, n: u8)
     requires { head_length ≤ length out.old }
-    ensures { out.new ≡ placed out.old 0 (head_bytes combustion metering n) }
+    ensures { out.new ≡ placed out.old 0 (head_bytes pair.combustion pair.metering n) }
 {
-    out[0] = b'G';
-    out[1] = b'C';
-    out[2] = b'R';
-    out[3] = VERSION;
-    out[4] = 0;
-    out[5] = combustion;
-    out[6] = metering;
-    out[7] = n;
+    let [low, high] = VERSION.to_le_bytes();
+    let head = [
+        b'G',
+        b'C',
+        b'R',
+        low,
+        high,
+        pair.combustion,
+        pair.metering,
+        n,
+    ];
+    out[..HEAD_LENGTH].copy_from_slice(&head);
 }
 
 // The 5 bytes of an entry at an offset.
@@ -71,11 +76,7 @@ fn put_entry(out: &mut [u8], at: usize, line: u8, fraction: u32)
     ensures { out.new ≡ placed out.old at (entry_bytes line fraction) }
 {
     let [low, second, third, high] = fraction.to_le_bytes();
-    out[at] = line;
-    out[at + 1] = low;
-    out[at + 2] = second;
-    out[at + 3] = third;
-    out[at + 4] = high;
+    out[at..at + 5].copy_from_slice(&[line, low, second, third, high]);
 }
 
 // The entries, where they begin.
@@ -90,11 +91,11 @@ fn put_entries<E: Entries>(out: &mut [u8], entries: &E)
 }
 
 // Contents as a record into the first bytes of a buffer that has room for it.
-pub fn put_record<E: Entries>(combustion: u8, metering: u8, entries: &E, out: &mut [u8])
+pub fn put_record<E: Entries>(pair: Pair, entries: &E, out: &mut [u8])
     requires few { length (E.lines entries.now) ≤ 55 }
     requires room { record_length (length (E.lines entries.now)) ≤ length out.old }
-    ensures { out.new ≡ placed out.old 0 (bytes_of (contents combustion metering (E.lines entries.now) (E.fractions entries.now))) }
+    ensures { out.new ≡ placed out.old 0 (bytes_of (contents pair.combustion pair.metering (E.lines entries.now) (E.fractions entries.now))) }
 {
-    put_head(out, combustion, metering, entries.len() as u8);
+    put_head(out, pair, entries.len() as u8);
     put_entries(out, entries);
 }

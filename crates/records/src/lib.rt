@@ -12,22 +12,22 @@ ghost use Rattle.records.specs.Answers.{Reads, Writes};
 mod conditions;
 mod entries;
 mod format;
+mod pair;
 mod record;
 mod refusal;
 mod scan;
 
-pub use conditions::pair_permitted;
 pub use entries::{Entries, Lists};
 pub use format::{number_2, number_4, record_length};
+pub use pair::Pair;
 pub use record::{Head, Record, RecordEntries};
 pub use refusal::Refusal;
 
-// The pair of temperatures in °C, and count entries: line number, and mole fraction in ppm. Past the entries stands 0. C takes the two
-// lists as arrays of their own.
+// The pair of temperatures, and count entries: line number, and mole fraction in ppm. Past the entries stands 0. The C interface fills
+// two arrays of 55, so the entries are two arrays.
 #[derive(Clone, Copy)]
 pub struct Analysis {
-    pub combustion: u8,
-    pub metering: u8,
+    pub pair: Pair,
     pub count: usize,
     pub lines: [u8; 55],
     pub fractions: [u32; 55],
@@ -42,8 +42,7 @@ pub fn read(bytes: &[u8]) -> Result<Analysis, Refusal>
     let mut fractions = [0u32; 55];
     format::read_entries(&record.entries(), &mut lines, &mut fractions);
     Ok(Analysis {
-        combustion: record.combustion(),
-        metering: record.metering(),
+        pair: record.pair(),
         count: record.head().count(),
         lines,
         fractions,
@@ -52,19 +51,22 @@ pub fn read(bytes: &[u8]) -> Result<Analysis, Refusal>
 
 // The entries that the writer is given, or the first of 19, 4, 5 and 7 to 12.
 fn given_entries<'a>(
-    combustion: u8,
-    metering: u8,
+    pair: Pair,
     lines: &'a [u8],
     fractions: &'a [u32],
 ) -> Result<Lists<'a>, Refusal>
-    ensures number { number_in result ≡ first_of (given_order (contents combustion metering lines.now fractions.now)) }
+    ensures number { number_in result ≡ first_of (given_order (contents pair.combustion pair.metering lines.now fractions.now)) }
     ensures same { IfOk result (λ e. (e.lines.now ≡ lines.now) × (e.fractions.now ≡ fractions.now)) }
 {
-    conditions::check_lists(
-        lines.len() != fractions.len(),
-        !conditions::pair_permitted(combustion, metering),
-        conditions::count_outside(lines.len()),
-    )?;
+    if lines.len() != fractions.len() {
+        return Err(Refusal::ListsDiffer);
+    }
+    if !pair.is_permitted() {
+        return Err(Refusal::PairNotPermitted);
+    }
+    if conditions::count_outside(lines.len()) {
+        return Err(Refusal::CountOutside);
+    }
     let entries = Lists { lines, fractions };
     scan::check_content(&entries)?;
     Ok(entries)
@@ -82,17 +84,11 @@ fn check_room(n: usize, room: usize) -> Result<(), Refusal>
 }
 
 // Writes a record into the first bytes of a buffer, and touches no other; a refusal leaves the whole buffer as it was.
-pub fn write(
-    combustion: u8,
-    metering: u8,
-    lines: &[u8],
-    fractions: &[u32],
-    out: &mut [u8],
-) -> Result<(), Refusal>
-    ensures { Writes (contents combustion metering lines.now fractions.now) out.old out.new result }
+pub fn write(pair: Pair, lines: &[u8], fractions: &[u32], out: &mut [u8]) -> Result<(), Refusal>
+    ensures { Writes (contents pair.combustion pair.metering lines.now fractions.now) out.old out.new result }
 {
-    let entries = given_entries(combustion, metering, lines, fractions)?;
+    let entries = given_entries(pair, lines, fractions)?;
     check_room(lines.len(), out.len())?;
-    format::put_record(combustion, metering, &entries, out);
+    format::put_record(pair, &entries, out);
     Ok(())
 }

@@ -5,6 +5,7 @@ ghost use Rattle.records.specs.Format.{head_length, record_length, count_in};
 ghost use Rattle.records.specs.Conditions.{record_order};
 
 use super::entries::Entries;
+use super::pair::Pair;
 use super::refusal::Refusal;
 use super::{conditions, format, scan};
 
@@ -22,26 +23,35 @@ impl Head<'_> {
     pub fn has_mark(&self) -> bool
         ensures { result ≡ has_mark self.now.bytes.now }
     {
-        (self.bytes[0] == b'G') & (self.bytes[1] == b'C') & (self.bytes[2] == b'R')
+        matches!(self.bytes, [b'G', b'C', b'R', ..])
     }
 
-    pub fn version(&self) -> u32
+    pub fn version(&self) -> u16
         ensures { result ≡ version_in self.now.bytes.now }
     {
         format::number_2(self.bytes, 3)
     }
 
-    // The pair of temperatures, in °C.
+    pub fn pair(&self) -> Pair
+        ensures { result ≡ record { combustion = combustion_in self.now.bytes.now; metering = metering_in self.now.bytes.now } }
+    {
+        Pair {
+            combustion: self.bytes[5],
+            metering: self.bytes[6],
+        }
+    }
+
+    // The temperatures of the pair, in °C.
     pub fn combustion(&self) -> u8
         ensures { result ≡ combustion_in self.now.bytes.now }
     {
-        self.bytes[5]
+        self.pair().combustion
     }
 
     pub fn metering(&self) -> u8
         ensures { result ≡ metering_in self.now.bytes.now }
     {
-        self.bytes[6]
+        self.pair().metering
     }
 
     // How many entries the record has.
@@ -108,17 +118,23 @@ impl<'a> Record<'a> {
         Ok(Self { bytes })
     }
 
-    // The pair of temperatures, in °C.
+    pub fn pair(&self) -> Pair
+        ensures { result ≡ record { combustion = combustion_in self.now.bytes.now; metering = metering_in self.now.bytes.now } }
+    {
+        self.head().pair()
+    }
+
+    // The temperatures of the pair, in °C.
     pub fn combustion(&self) -> u8
         ensures { result ≡ combustion_in self.now.bytes.now }
     {
-        self.head().combustion()
+        self.pair().combustion
     }
 
     pub fn metering(&self) -> u8
         ensures { result ≡ metering_in self.now.bytes.now }
     {
-        self.head().metering()
+        self.pair().metering
     }
 
     pub fn head(&self) -> Head<'a>

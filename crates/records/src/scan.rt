@@ -9,6 +9,13 @@ use super::conditions;
 use super::entries::Entries;
 use super::refusal::Refusal;
 
+// The range of the sum of the fractions, and the least fraction of methane, in ppm.
+const LEAST_SUM: u64 = 999900;
+
+const MOST_SUM: u64 = 1000100;
+
+const LEAST_METHANE: u32 = 500000;
+
 // What 9 to 12 need of the entries so far: the sum of the fractions, the fractions of methane and of water, 0 where absent, and
 // whether another line is above its limit.
 #[derive(Clone, Copy, Default)]
@@ -28,11 +35,23 @@ impl Scan {
         ensures above { result.above ≡ (self.above || above_limit line fraction) }
         ensures water { result.water ≡ cond (eqb line water) fraction self.water }
     {
-        Self {
-            sum: self.sum + u64::from(fraction),
-            methane: fraction_or(self.methane, conditions::METHANE, line, fraction),
-            above: self.above | conditions::above_limit(line, fraction),
-            water: fraction_or(self.water, conditions::WATER, line, fraction),
+        let sum = self.sum + u64::from(fraction);
+        match line {
+            conditions::METHANE => Self {
+                sum,
+                methane: fraction,
+                ..self
+            },
+            conditions::WATER => Self {
+                sum,
+                water: fraction,
+                ..self
+            },
+            _ => Self {
+                sum,
+                above: self.above || conditions::above_limit(line, fraction),
+                ..self
+            },
         }
     }
 
@@ -40,27 +59,27 @@ impl Scan {
     fn check(self) -> Result<(), Refusal>
         ensures { number_in result ≡ first_of (limits_order (sum_outside self.sum) (methane_low self.methane) self.above (water_high self.water)) }
     {
-        conditions::check_limits(
-            conditions::sum_outside(self.sum),
-            conditions::methane_low(self.methane),
-            self.above,
-            conditions::water_high(self.water),
-        )
+        if self.sum < LEAST_SUM || MOST_SUM < self.sum {
+            return Err(Refusal::SumOutside);
+        }
+        if self.methane < LEAST_METHANE {
+            return Err(Refusal::MethaneLow);
+        }
+        if self.above {
+            return Err(Refusal::AboveLimit);
+        }
+        if conditions::limit_of(conditions::WATER) < self.water {
+            return Err(Refusal::WaterHigh);
+        }
+        Ok(())
     }
-}
-
-// The fraction of an entry where its line is the wanted one, and otherwise another.
-fn fraction_or(other: u32, wanted: u8, line: u8, fraction: u32) -> u32
-    ensures { result ≡ cond (eqb line wanted) fraction other }
-{
-    if line == wanted { fraction } else { other }
 }
 
 // A line number outside 1 to 55, or not above the one before; 0 stands before the first.
 fn line_breaks(before: u8, line: u8) -> bool
     ensures { result ≡ (leb line before || ltb 55 line) }
 {
-    (line <= before) | (55 < line)
+    line <= before || 55 < line
 }
 
 // 7.

@@ -15,9 +15,6 @@ pub nat_abs_neg : (a : ℕ) → nat_abs (neg_ℤ (pos a)) ≡ a
 nat_abs_neg zero = refl
 nat_abs_neg (suc a) = refl
 
-pub fits64 : (z : ℤ) → nat_abs z < 2 ^ 63 → SFits w64 z
-fits64 z h = fits_signed_from_abs w64 z h
-
 -- 0 - x, as the machine negates
 pub minus_is : (x : ℕ) → x < 2 ^ 63 → pos 0 -ℤ to_z w64 x ≡ neg_ℤ (pos x)
 minus_is x h = ap (λ (z : ℤ). pos 0 -ℤ z) (to_z_pos w64 x h) ∙ +ℤ_idl (neg_ℤ (pos x))

@@ -69,6 +69,7 @@ fn first_candidate(n: u64) -> u64
 
 // The integer square root by Newton's method, from above: a candidate is at least the root, and at most half as far from it as
 // the one before. Each round tries one candidate, and the search ends with the round whose candidate is the root.
+// The rounds are counted by hand: a `for` over them would owe an answer after its last one, which never comes.
 fn root_search(n: u64) -> Rooted
     ensures right { result.root ≡ root n }
     ensures counted { result.rounds ≡ root_rounds n }

@@ -8,14 +8,13 @@ use Rattle.properties.specs.Quantities.{calorific_bound}
 use Rattle.meter.specs.declared.Register.{Register}
 use Rattle.meter.specs.declared.StreamTotals.{StreamTotals}
 use Rattle.meter.specs.declared.Meter.{Meter}
-use Rattle.meter.specs.declared.MeanAnswer.{MeanAnswer}
 use Rattle.meter.specs.State.{Sound, stream_at}
 use Rattle.meter.specs.Calls.{mean_reading}
 use Rattle.meter.specs.Answers.{mean_meaning}
 use Rattle.meter.proofs.Kept.{no_mean_above_ceiling}
 use Rattle.lent_meter.specs.Lent.{Lent, OnReading}
 use Rattle.tally.specs.Tally.{Energy, superior, inferior}
-use Rattle.tally.specs.Run.{MeanReturns}
+use Rattle.tally.specs.Run.{MeanAnswer, MeanReturns}
 use Rattle.tally.specs.LentRun.{Words, MeanAsked, MeanGave}
 
 abbrev pub register_of : Energy → StreamTotals → Register

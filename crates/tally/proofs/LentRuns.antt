@@ -1,9 +1,10 @@
 -- Each run of the exported functions on words is a run of the meter that the words hold.
 use mathlib.Core.Path.{◌≡◌, refl, sym, ap, subst, ◌∙◌}
+use mathlib.Core.Bool.{true}
 use mathlib.Core.List.{List, [], ◌∷◌}
 use Prim.Native.Nat.{ℕ, zero, suc}
-use Rattle.records.specs.Order.{first_of, decided, otherwise, mapped}
-use Rattle.records.specs.Answers.{verdict_of, Returns}
+use Rattle.records.specs.Order.{Order, first_of, decided, otherwise, mapped}
+use Rattle.records.specs.Answers.{number_of, Returns}
 use Rattle.meter.specs.declared.Meter.{Meter}
 use Rattle.meter.specs.State.{Sound, fresh_meter, stream_at, with_stream}
 use Rattle.meter.specs.Conditions.{analysis_order, metering_order, totals_order, mean_order}
@@ -17,8 +18,9 @@ use Rattle.tally.specs.Run.{change_answer, totals_given, Step, by_analysis, by_m
 use Rattle.tally.specs.LentRun as lent
 use Rattle.tally.specs.LentRun.{Words, totals_put, LentStep, LentRun, LentRequired, CheckDecides, LentClaim}
 use Rattle.tally.proofs.Energies.{register_of, mean_for, mean_returned, lent_mean_asked, lent_mean_found}
+use Rattle.tally.proofs.Answers.{known, answered_by}
 use Rattle.tally.proofs.Demand.{demand3}
-use Rattle.tally.proofs.Exists.{to, to_mut, totals_with, totals_means, mean_with, mean_means, call_gives}
+use Rattle.tally.proofs.Exists.{to, to_mut, totals_with, totals_means, mean_with, mean_means, verdict_by, call_gives}
 
 -- words hold a sound meter
 record Holds (w : Words) (m : Meter) : Type 0 where
@@ -29,10 +31,14 @@ lent_by : {w : Words} {m : Meter} → Holds w m → Lent w
 lent_by {w} {m} h = record { meter = m; sound = h.sound; holds = h.same }
 
 -- the answer that a number, and what was put into lent memory, say
-change_answer_lem : (i : ℕ) {A B : Type 0} (f : A → B) (answer : A) {old new : B} {n : ℕ} → Returns (mapped f (decided i answer)) old n new →
-    change_answer (verdict_of i) ≡ decided n done
-change_answer_lem zero f answer r = ap (λ (n : ℕ). decided n done) (sym r.number_is)
-change_answer_lem (suc i) f answer r = ap (λ (n : ℕ). decided n done) (sym r.number_is)
+number_decided : {A B : Type 0} (f : A → B) (answer : A) (i : ℕ) → number_of (mapped f (decided i answer)) ≡ i
+number_decided f answer zero = refl
+number_decided f answer (suc i) = refl
+
+change_answer_lem : (o : Order) → known o ≡ true → {A B : Type 0} (f : A → B) (answer : A) {old new : B} {n : ℕ} →
+    Returns (mapped f (decided (first_of o) answer)) old n new → change_answer (verdict_by o) ≡ decided n done
+change_answer_lem o h f answer r =
+    answered_by {A = Unit {0}} (λ _. done) tt o h ∙ ap (λ (n : ℕ). decided n done) (sym (r.number_is ∙ number_decided f answer (first_of o)))
 
 read_answer : {A B : Type 0} (shown : A → B) (put : B → Given) (given : A → Given) → ((a : A) → given a ≡ put (shown a)) → (i : ℕ) (answer : A) {old new : B} {n : ℕ} →
     Returns (mapped shown (decided i answer)) old n new → mapped given (decided i answer) ≡ decided n (put new)
@@ -50,30 +56,30 @@ answered {m} {m₁} {c} e h s = record { meter = m₁; holds = h; step = subst (
 
 stepped : {w w₁ : Words} {cs : List Call} {rs : List Answer} (m : Meter) → Holds w m → LentStep w cs rs w₁ → Stepped m cs rs w₁
 stepped m h (lent.by_analysis κs w k b n w₁ gave) =
-    let i = first_of (analysis_order k b.now (stream_at m k)) in
+    let o = analysis_order k b.now (stream_at m k) in
     let new = with_stream m k (analysed (stream_at m k) b.now) in
     let words = (gave tt).0 in
-    answered (change_answer_lem i packed new (words m h.sound h.same))
+    answered (change_answer_lem o refl packed new (words m h.sound h.same))
     (record { sound = sound_after_analysis k b.now m h.sound; same = held_after (λ (x : Meter). analysis_of x k b.now) m words h.sound h.same })
-    (by_analysis ([], ([], tt)) (to_mut m) k b (verdict_of i) (to_mut (otherwise m (decided i new))) (λ p. call_gives i m new))
+    (by_analysis ([], ([], tt)) (to_mut m) k b (verdict_by o) (to_mut (otherwise m (decided (first_of o) new))) (λ p. call_gives o refl m new))
 stepped m h (lent.by_metering κs w k v n w₁ gave) =
-    let i = first_of (metering_order k v (stream_at m k)) in
+    let o = metering_order k v (stream_at m k) in
     let new = with_stream m k (metered (stream_at m k) v) in
     let words = (gave (lent_by h)).0 in
-    answered (change_answer_lem i packed new (words m h.sound h.same))
+    answered (change_answer_lem o refl packed new (words m h.sound h.same))
     (record { sound = sound_after_metering k v m h.sound; same = held_after (λ (x : Meter). metering_of x k v) m words h.sound h.same })
-    (by_metering ([], tt) (to_mut m) k v (verdict_of i) (to_mut (otherwise m (decided i new))) (λ p. call_gives i m new))
+    (by_metering ([], tt) (to_mut m) k v (verdict_by o) (to_mut (otherwise m (decided (first_of o) new))) (λ p. call_gives o refl m new))
 stepped m h (lent.by_totals κs w k t n t₁ gave) =
     answered
-    (ap (mapped totals_given) (totals_means (totals_of m k))
+    (ap (mapped totals_given) (totals_means m k)
     ∙ read_answer packed_totals totals_put totals_given (λ x. refl) (first_of (totals_order k)) (stream_at m k).totals (gave tt m h.sound h.same))
-    h (by_totals ([], tt) (to m) k (totals_with (totals_of m k)) (λ p. totals_means (totals_of m k)))
+    h (by_totals ([], tt) (to m) k (totals_with m k) (λ p. totals_means m k))
 stepped m h (lent.by_mean e κs w k x n x₁ gave) =
     let s = stream_at m k in
     answered
-    (ap (mapped mean_is) (mean_means (mean_for e k m))
+    (ap (mapped mean_is) (mean_means e m k)
     ∙ read_answer (λ (x : ℕ). x) mean_is mean_is (λ x. refl) (first_of (mean_order k s)) (mean_in (register_of e s.totals) s.totals.volume) (lent_mean_found κs w k x e n x₁ gave (lent_by h) m h.sound h.same))
-    h (by_mean e ([], tt) (to m) k (mean_with (mean_for e k m)) (mean_returned ([], tt) (to m) k e _ (mean_means (mean_for e k m))))
+    h (by_mean e ([], tt) (to m) k (mean_with e m k) (mean_returned ([], tt) (to m) k e _ (mean_means e m k)))
 
 -- the meter after a list on words, and its run
 record Ran (m : Meter) (cs : List Call) (rs : List Answer) (w : Words) : Type 0 where

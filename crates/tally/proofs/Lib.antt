@@ -1,3 +1,4 @@
+mod Answers
 mod Cases
 mod Energies
 mod Alike

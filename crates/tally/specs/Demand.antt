@@ -15,11 +15,9 @@ use Rattle.properties.specs.Quantities.{calorific_bound}
 use Rattle.properties.specs.Accepted.{Shown}
 use Rattle.meter.specs.declared.Gas.{Gas}
 use Rattle.meter.specs.declared.Meter.{Meter}
-use Rattle.meter.specs.declared.TotalsAnswer.{TotalsAnswer}
-use Rattle.meter.specs.declared.MeanAnswer.{MeanAnswer}
 use Rattle.meter.specs.State.{stream_at}
 use Rattle.tally.specs.Tally.{last_stream, Energy, Ask, analysis, metering, totals, mean, Call, on, done, Answer, Account, StreamTally, account_of, given_by, tally_at, fresh_tally, answers_to, tallied}
-use Rattle.tally.specs.Run.{AnalysisAsks, MeteringAsks, TotalsAsks, MeanAsks, FreshReturns, TotalsReturns, MeanReturns, totals_answer, mean_answer, Run, ended, after}
+use Rattle.tally.specs.Run.{TotalsAnswer, MeanAnswer, AnalysisAsks, MeteringAsks, TotalsAsks, MeanAsks, FreshReturns, TotalsReturns, MeanReturns, totals_answer, mean_answer, Run, ended, after}
 
 -- the volume that a call added: that of an accepted metering call
 abbrev pub added_by : Ask → Answer → ℕ

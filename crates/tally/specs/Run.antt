@@ -1,18 +1,19 @@
 -- What the functions of crates/meter did on a list of calls: each step is what the contract of the function promises of the value that
 -- it returned. `Asked` is what the contract requires and `Learnt` what it ensures, both as the checker reads them from the code.
-use Rattle.std.specs.Prelude.{List, [], ◌∷◌, ◌++◌, ℕ}
+use Rattle.std.specs.Prelude.{List, [], ◌∷◌, ◌++◌, ℕ, Result}
 use contract.Lifetimes.{Lfts}
 use Rattle.std.specs.Borrow.{Bor, MutBor}
-use Rattle.records.specs.declared.Verdict.{Verdict}
+use Rattle.records.specs.declared.refusal.Refusal.{Refusal}
 use Rattle.records.specs.Order.{mapped}
+use Rattle.records.specs.Refusals.{Verdict}
 use Rattle.records.specs.Answers.{meaning}
+use Rattle.properties.specs.declared.quantities.Quantity.{Quantity}
+use Rattle.properties.specs.Quantities.{calorific_bound}
 use Rattle.meter.specs.declared.Meter.{Meter}
 use Rattle.meter.specs.declared.Energy.TheVariants as energy
 use Rattle.meter.specs.declared.Energy.{Energy as MeterEnergy}
 use Rattle.meter.specs.declared.Register.{Register}
 use Rattle.meter.specs.declared.StreamTotals.{StreamTotals}
-use Rattle.meter.specs.declared.TotalsAnswer.{TotalsAnswer}
-use Rattle.meter.specs.declared.MeanAnswer.{MeanAnswer}
 use Rattle.meter.specs.Answers.{totals_meaning, mean_meaning}
 use Rattle.meter.proofs.Meter.new.Reads as fresh-reads
 use Rattle.meter.proofs.Meter.analysis.Reads as analysis-reads
@@ -20,6 +21,13 @@ use Rattle.meter.proofs.Meter.metering.Reads as metering-reads
 use Rattle.meter.proofs.Meter.totals.Reads as totals-reads
 use Rattle.meter.proofs.Meter.mean.Reads as mean-reads
 use Rattle.tally.specs.Tally.{Energy, superior, inferior, analysis, metering, totals, mean, Call, on, Parts, Given, done, totals_are, mean_is, Answer}
+
+-- what the readings answer
+abbrev pub TotalsAnswer : Type 0
+TotalsAnswer = Result StreamTotals Refusal
+
+abbrev pub MeanAnswer : Type 0
+MeanAnswer = Result (Quantity calorific_bound) Refusal
 
 -- an energy of a stream as the meter names it
 abbrev pub named : Energy → MeterEnergy

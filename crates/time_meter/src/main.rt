@@ -7,13 +7,16 @@ ghost use Rattle.std.specs.Prelude.{◌≡◌};
 ghost use Rattle.meter.specs.State.{Sound};
 ghost use Rattle.time_meter.specs.Calls.{temperature_of, methane_at, analysed_to, metered_to};
 
-use meter::{MeanAnswer, Meter, Register, TotalsAnswer};
+use meter::{MeanAnswer, Meter, StreamTotals, TotalsAnswer};
+use properties::quantities::CalorificValue;
+use std::fmt::{Display, Formatter};
+use std::{fmt, io};
 
 // 15 °C for even streams, 0 °C for odd ones.
 fn temperature(stream: usize) -> u8
     ensures { result ≡ temperature_of stream }
 {
-    (15 * (1 - stream % 2)) as u8
+    if stream % 2 == 0 { 15 } else { 0 }
 }
 
 // The record of methane alone at t/t.
@@ -50,43 +53,73 @@ fn metered(m: Meter) -> Meter
     after
 }
 
-// An energy and its mean; nothing of them where the mean is refused.
-fn print_energy(rt: &impl Print, energy: Register, answer: MeanAnswer) {
-    let MeanAnswer::Accepted(mean) = answer else {
-        return;
-    };
-    report::print_spaced(rt, energy.whole);
-    report::print_spaced(rt, energy.rest);
-    report::print_spaced(rt, mean.value());
+// What a stream has taken, and its means.
+#[derive(Drop)]
+struct Line {
+    stream: usize,
+    totals: StreamTotals,
+    mean: CalorificValue,
+    mean_inferior: CalorificValue,
 }
 
-// The line of a stream; none where its totals are refused.
-fn print_stream(rt: &impl Print, m: Meter, stream: usize)
-    requires { Sound m }
-{
-    let TotalsAnswer::Accepted(totals) = meter::totals(m, stream) else {
-        return;
-    };
-    report::print_number(rt, stream as u64);
-    report::print_spaced(rt, totals.volume);
-    print_energy(rt, totals.superior, meter::mean(m, stream));
-    print_energy(rt, totals.inferior, meter::mean_inferior(m, stream));
-    report::print_spaced(rt, totals.mass.whole);
-    report::print_spaced(rt, totals.mass.rest);
-    report::end_line(rt);
-}
-
-fn print_streams(rt: &impl Print, m: Meter)
-    requires { Sound m }
-{
-    for stream in 0..16 {
-        print_stream(rt, m, stream);
+impl Display for Line {
+    fn fmt<W: fmt::Write>(&self, f: &mut Formatter<W>) -> fmt::Result {
+        let t = self.totals;
+        write!(f, "{} {}", self.stream, t.volume)?;
+        write!(
+            f,
+            " {} {} {}",
+            t.superior.whole,
+            t.superior.rest,
+            self.mean.value()
+        )?;
+        write!(
+            f,
+            " {} {} {}",
+            t.inferior.whole,
+            t.inferior.rest,
+            self.mean_inferior.value()
+        )?;
+        write!(f, " {} {}", t.mass.whole, t.mass.rest)
     }
 }
 
+// The line of a stream; none where the meter refuses to tell.
+fn line_of(m: Meter, stream: usize) -> Option<Line>
+    requires { Sound m }
+{
+    let TotalsAnswer::Accepted(totals) = meter::totals(m, stream) else {
+        return None;
+    };
+    let MeanAnswer::Accepted(mean) = meter::mean(m, stream) else {
+        return None;
+    };
+    let MeanAnswer::Accepted(mean_inferior) = meter::mean_inferior(m, stream) else {
+        return None;
+    };
+    Some(Line {
+        stream,
+        totals,
+        mean,
+        mean_inferior,
+    })
+}
+
+fn print_lines(rt: &impl Print, m: Meter) -> io::Result<()>
+    requires { Sound m }
+{
+    for stream in 0..16 {
+        if let Some(line) = line_of(m, stream) {
+            println!(rt; "{line}")?;
+        }
+    }
+    Ok(())
+}
+
+// It ends alike where a write fails.
 fn main(rt: HostRuntime) {
     let m0 = meter::fresh();
     let m1 = with_analyses(m0);
     let m2 = metered(m1);
-    print_streams(&rt, m2);
+    let _ = print_lines(&rt, m2);
 }

@@ -7,183 +7,131 @@
 // `n` takes a fresh meter, `a` is an analysis, `m` a metering call, `f` fills a stream, and `r` reads one.
 #![tactic(auto)]
 
-ghost use Rattle.std.specs.Prelude.{◌≡◌, ◌+◌, ◌≤◌, length, take};
-ghost use Rattle.meter.specs.State.{Sound};
-ghost use Rattle.try_meter.specs.Calls.{number8, filled_by, after_call};
+mod call;
+mod printed;
 
-use meter::{MeanAnswer, Meter, Register, TotalsAnswer};
-use records::Verdict;
+ghost use Rattle.std.specs.Prelude.{◌≡◌, ◌≤◌, IfOk, vec_len};
+ghost use Rattle.meter.specs.State.{Sound};
+ghost use Rattle.meter.specs.Calls.{after_analysis, after_metering};
+ghost use Rattle.try_meter.specs.Calls.{filled_by, after_call};
+
+use call::{Call, Calls, Kind};
+use meter::Meter;
+use printed::{Accepted, Answer, Mean, Totals};
+use std::alloc::{AllocError, Allocator};
+use std::io;
 use std::io::{Input, Read};
 
-// The name of a call, and the stream that it names.
-fn print_call(rt: &impl Print, name: &[u8], stream: usize) {
-    report::print_text(rt, name);
-    report::print_spaced(rt, stream as u64);
+// An analysis, and a metering call.
+fn analysis(meter: &mut Meter, stream: usize, bytes: &[u8]) -> Answer<Accepted>
+    requires { Sound meter.old }
+    ensures { (meter.new ≡ after_analysis meter.old stream bytes.now) × Sound meter.new }
+{
+    let changed = meter::analysis(*meter, stream, bytes);
+    *meter = changed.meter;
+    Answer::from(changed.verdict)
 }
 
-fn print_refused(rt: &impl Print, number: u8) {
-    report::print_line(rt, b": refused", number as u64);
-}
-
-fn print_verdict(rt: &impl Print, verdict: Verdict) {
-    match verdict {
-        Verdict::Accepted => {
-            report::print_text(rt, b": accepted\n");
-        }
-        Verdict::Refused(number) => print_refused(rt, number),
-    }
+fn metering(meter: &mut Meter, stream: usize, volume: u64) -> Answer<Accepted>
+    requires { Sound meter.old }
+    ensures { (meter.new ≡ after_metering meter.old stream volume) × Sound meter.new }
+{
+    let changed = meter::metering(*meter, stream, volume);
+    *meter = changed.meter;
+    Answer::from(changed.verdict)
 }
 
 // A stream takes 99,999 times 10,000,000 dm³.
-fn fill(m: Meter, stream: usize) -> Meter
-    requires { Sound m }
-    ensures { (result ≡ filled_by 99999 m stream) × Sound result }
+fn fill(meter: &mut Meter, stream: usize)
+    requires { Sound meter.old }
+    ensures { (meter.new ≡ filled_by 99999 meter.old stream) × Sound meter.new }
 {
-    let mut filled = m;
     for i in 0..99999u64 {
-        let changed = meter::metering(filled, stream, 10000000);
-        filled = changed.meter;
+        metering(meter, stream, 10000000);
     }
-    filled
 }
 
-// A register's name, its whole part and its rest, each with its unit.
-fn print_register(rt: &impl Print, name: &[u8], register: Register, whole: &[u8], rest: &[u8]) {
-    report::print_text(rt, name);
-    report::print_amount(rt, register.whole, whole);
-    report::print_amount(rt, register.rest, rest);
+// What the call gives; nothing is said of a fresh meter and of one that is filled.
+#[derive(Drop)]
+enum Given {
+    Nothing,
+    Analysis(Answer<Accepted>),
+    Metering(Answer<Accepted>),
+    Reading {
+        totals: Answer<Totals>,
+        mean: Answer<Mean>,
+        inferior: Answer<Mean>,
+    },
 }
 
-fn print_totals(rt: &impl Print, stream: usize, answer: TotalsAnswer) {
-    print_call(rt, b"totals", stream);
-    match answer {
-        TotalsAnswer::Accepted(t) => {
-            report::print_text(rt, b": ");
-            report::print_amount(rt, t.volume, b" dm3");
-            print_register(rt, b", superior ", t.superior, b" MJ ", b" mJ");
-            print_register(rt, b", inferior ", t.inferior, b" MJ ", b" mJ");
-            print_register(rt, b", mass ", t.mass, b" kg ", b" e-11 kg\n");
+// Makes a call of the input.
+fn make(meter: &mut Meter, call: &Call) -> Given
+    requires { Sound meter.old }
+    ensures { (meter.new ≡ after_call meter.old call.now.kind call.now.stream call.now.volume call.now.bytes.now) × Sound meter.new }
+{
+    let stream = call.stream;
+    match call.kind {
+        Kind::Fresh => {
+            *meter = meter::fresh();
+            Given::Nothing
         }
-        TotalsAnswer::Refused(number) => print_refused(rt, number),
-    }
-}
-
-fn print_mean(rt: &impl Print, name: &[u8], stream: usize, answer: MeanAnswer) {
-    print_call(rt, name, stream);
-    match answer {
-        MeanAnswer::Accepted(h) => {
-            report::print_text(rt, b": ");
-            report::print_amount(rt, h.value(), b" J/m3\n");
+        Kind::Analysis => Given::Analysis(analysis(meter, stream, call.bytes)),
+        Kind::Metering => Given::Metering(metering(meter, stream, call.volume)),
+        Kind::Filling => {
+            fill(meter, stream);
+            Given::Nothing
         }
-        MeanAnswer::Refused(number) => print_refused(rt, number),
+        Kind::Reading => Given::Reading {
+            totals: Answer::from(meter::totals(*meter, stream)),
+            mean: Answer::from(meter::mean(*meter, stream)),
+            inferior: Answer::from(meter::mean_inferior(*meter, stream)),
+        },
     }
 }
 
-// The totals of a stream, and both its means.
-fn print_readings(rt: &impl Print, m: Meter, stream: usize)
-    requires { Sound m }
-{
-    print_totals(rt, stream, meter::totals(m, stream));
-    print_mean(rt, b"mean", stream, meter::mean(m, stream));
-    print_mean(
-        rt,
-        b"mean inferior",
-        stream,
-        meter::mean_inferior(m, stream),
-    );
-}
-
-// Makes a call of the input, and gives the meter after it.
-fn called(
-    rt: &impl Print,
-    m: Meter,
-    kind: u8,
-    stream: usize,
-    volume: u64,
-    title: &[u8],
-    bytes: &[u8],
-) -> Meter
-    requires { Sound m }
-    ensures { (result ≡ after_call m kind stream volume bytes.now) × Sound result }
-{
-    if kind == b'n' {
-        return meter::fresh();
-    }
-    if kind == b'a' {
-        let changed = meter::analysis(m, stream, bytes);
-        let given = changed.verdict;
-        print_call(rt, b"analysis", stream);
-        report::print_text(rt, title);
-        print_verdict(rt, given);
-        return changed.meter;
-    }
-    if kind == b'm' {
-        let changed = meter::metering(m, stream, volume);
-        let given = changed.verdict;
-        print_call(rt, b"metering", stream);
-        report::print_spaced(rt, volume);
-        print_verdict(rt, given);
-        return changed.meter;
-    }
-    if kind == b'f' {
-        return fill(m, stream);
-    }
-    print_readings(rt, m, stream);
-    m
-}
-
-// The 8-byte number at an offset.
-fn number_8(bytes: &[u8], at: usize) -> u64
-    requires { at + 8 ≤ length bytes.now }
-    ensures { result ≡ number8 bytes.now at }
-{
-    records::number_4(bytes, at) as u64 + 4294967296 * (records::number_4(bytes, at + 4) as u64)
-}
-
-// Every call of the input, up to one that it does not hold whole.
-fn calls(rt: &impl Print, input: &[u8])
-    requires { length input.now ≤ 2048 }
-{
-    let mut m = meter::fresh();
-    let mut at = 0;
-    while at + 21 <= input.len() {
-        let title = at + 21;
-        let record = title + records::number_2(input, at + 1) as usize;
-        let end = record + records::number_2(input, at + 3) as usize;
-        if input.len() < end {
-            return;
+fn print(rt: &impl Print, call: &Call, given: Given) -> io::Result<()> {
+    let stream = call.stream;
+    match given {
+        Given::Nothing => Ok(()),
+        Given::Analysis(answer) => {
+            print!(rt; "analysis {stream}")?;
+            rt.write_all(call.title)?;
+            println!(rt; ": {answer}")
         }
-        let stream = number_8(input, at + 5) as usize;
-        let volume = number_8(input, at + 13);
-        m = called(
-            rt,
-            m,
-            input[at],
-            stream,
-            volume,
-            &input[title..record],
-            &input[record..end],
-        );
-        at = end;
-    }
-}
-
-// Reads until the buffer is full, the input ends or a read fails, and answers how many bytes it put at the start of the buffer.
-fn read_full(reader: &mut impl Read, buffer: &mut [u8]) -> usize
-    ensures { (result ≤ length buffer.new) × (result ≡ length (take result buffer.new)) }
-{
-    let mut done = 0;
-    while done < buffer.len() {
-        match reader.read(&mut buffer[done..]) {
-            Ok(0) | Err(_) => break,
-            Ok(more) => done += more,
+        Given::Metering(answer) => println!(rt; "metering {stream} {}: {answer}", call.volume),
+        Given::Reading {
+            totals,
+            mean,
+            inferior,
+        } => {
+            println!(rt; "totals {stream}: {totals}")?;
+            println!(rt; "mean {stream}: {mean}")?;
+            println!(rt; "mean inferior {stream}: {inferior}")
         }
     }
-    done
 }
 
+// Makes the calls of the input on a meter that begins fresh.
+fn run(rt: &impl Print, input: &[u8]) -> io::Result<()> {
+    let mut meter = meter::fresh();
+    for call in Calls(input) {
+        let given = make(&mut meter, &call);
+        print(rt, &call, given)?;
+    }
+    Ok(())
+}
+
+// What can be read of the input, up to 2,048 bytes.
+fn read_input<R: Read + Drop, A: Allocator>(reader: R, alloc: A) -> Result<Vec<u8, A>, AllocError>
+    ensures { IfOk result (λ bytes. vec_len bytes ≤ 2048) }
+{
+    let read = reader.bytes().take(2048);
+    read.map_while(Result::ok).collect(alloc)
+}
+
+// It ends alike where memory is short or a write fails.
 fn main(rt: HostRuntime) {
-    let mut space = [0u8; 2048];
-    let n = read_full(&mut rt.reader(), &mut space);
-    calls(&rt, &space[..n]);
+    if let Ok(input) = read_input(rt.reader(), rt.alloc()) {
+        let _ = run(&rt, &input);
+    }
 }

@@ -1,5 +1,6 @@
 -- The record's number, 14, or the row with the record's gas.
-use mathlib.Core.Path.{refl, sym, ◌∙◌}
+use Rattle.records.specs.declared.pair.Pair.{Pair}
+use mathlib.Core.Path.{refl, sym, ap, ◌∙◌}
 use native.Mathlib.Omega.{arith}
 use Rattle.meter.specs.Calls.{analysed}
 use Rattle.lent_meter.specs.Words.{packed_stream}
@@ -16,5 +17,5 @@ returns-then-pair_differs-clause-on_row c s sound holds =
     let bytes = c.args.bytes.now in
     let e = c.in_ok-accepted.ensures in
     number_refuses packed_stream (analysed s bytes) _
-    (record_accepted s holds bytes (rw e.same at c.combustion.ensures) (rw e.same at c.metering.ensures) (sym e.number) (sym c.pair_differs.ensures ∙ c.if-pair_differs.true))
+    (record_accepted s holds bytes (ap (λ (p : Pair). p.combustion) (rw e.same at c.pair-pair.ensures)) (ap (λ (p : Pair). p.metering) (rw e.same at c.pair-pair.ensures)) (sym e.number) (sym c.pair_differs.ensures ∙ c.if-pair_differs.true))
     (λ z. omega arith) refl

@@ -1,105 +1,108 @@
--- Each step gives its letter of the chain, and the gas keeps each step within what it asks.
-use mathlib.Core.Path.{◌≡◌, ap, ◌∙◌}
-use Prim.Native.Nat.{ℕ}
+-- Each step gives its letter of the chain, and the sums keep each step within what it asks.
+use mathlib.Core.Path.{◌≡◌}
+use Prim.Native.Nat.{ℕ, ◌*◌, ◌^◌, ◌≤◌, ◌<◌}
+use native.Mathlib.Nat.{mul-le-mul_left}
 use native.Mathlib.Omega.{arith}
 use lib.IntN.{ℤ}
-use Rattle.records.specs.Format.{Contents}
-use Rattle.properties.specs.declared.Properties.{Properties}
-use Rattle.properties.specs.Answers.{numbers}
-use Rattle.properties.specs.Chain.{temperature, divisor, air_factor, compression, tenth, real, ideal_calorific, ideal_density, ideal_relative, wobbe, root_of, Six, T, D, S9, Z, Hs, Hi, rho, A, G, d, r, W}
-use Rattle.properties.specs.Accepted.{SumsOf}
-use Rattle.properties.proofs.Gas.{superior_high, inferior_high, mass_high_lem, summation_high_lem, summation_word, A-high, Z-low, Hs-high, d_low, d_high}
+use mir.Syntax.{w64}
+use mir.Val.{to_z, of_z}
+use Rattle.components.specs.Bounds.{heat_high, mass_low, mass_high}
+use Rattle.properties.specs.Bounds.{air_high, compression_low, ideal_calorific_high, calorific_high, ideal_high, ideal_relative_high, relative_low}
+use Rattle.properties.specs.Quantities.{calorific_bound, density_bound, relative_bound}
+use Rattle.properties.specs.Chain.{temperature, divisor, air_factor, compression, tenth, ideal_calorific, ideal_density, ideal_relative, T, D, S9, Z, Hs, Hi, rho, A, G, d, r, W}
+use Rattle.properties.specs.Accepted.{Summed}
+use Rattle.properties.proofs.StepBounds.{compression_high, divisor_low_lem, air_low_lem, air_high_lem, ideal_calorific_high_lem, ideal_density_high, ideal_relative_high_lem, ideal_relative_low, real_high, real_low}
+use Rattle.properties.proofs.Gas.{superior_bounds, inferior_bounds, mass_low_lem, mass_high_lem, summation_high_lem, summation_word, Z-low}
 use Rattle.properties.proofs.properties_from.Goals as goal
 
--- a step's answer, with what it takes replaced by letters of the chain
-stepped : (f : ℕ → ℕ → ℕ → ℕ) {v x y z x' y' z' : ℕ} → v ≡ f x y z → x ≡ x' → y ≡ y' → z ≡ z' → v ≡ f x' y' z'
-stepped f e ex ey ez = rw (← ex, ← ey, ← ez) e
+module _ {superior inferior mass metering : ℕ} {summation : ℤ} (q : Summed superior inferior mass summation metering) where
+  superior_most : superior ≤ heat_high
+  superior_most = rw q.sums.superior_is (superior_bounds q.gas q.acceptable).1
 
-stepped-index : {v Hs d Hs' d' : ℕ} → v ≡ wobbe Hs (root_of d) → Hs ≡ Hs' → d ≡ d' → v ≡ wobbe Hs' (root_of d')
-stepped-index e eh ed = rw (← eh, ← ed) e
+  inferior_most : inferior ≤ heat_high
+  inferior_most = rw q.sums.inferior_is (inferior_bounds q.gas q.acceptable).1
 
-together : (p : Properties) (q : Six) → p.z.value ≡ q.Z → p.hs.value ≡ q.Hs → p.hi.value ≡ q.Hi → p.rho.value ≡ q.rho
-    → p.d.value ≡ q.d → p.w.value ≡ q.W → numbers p ≡ q
-together p q e1 e2 e3 e4 e5 e6 = rw (e1, e2, e3, e4, e5, e6)
+  mass_least : mass_low ≤ mass
+  mass_least = rw q.sums.mass_is (mass_low_lem q.gas q.acceptable)
 
--- the letters of a gas k with these sums, as the steps give them
-module _ (superior inferior mass metering : ℕ) (summation : ℤ) (k : Contents) (sums : SumsOf k superior inferior mass summation metering) where
-  D-is : divisor (temperature metering) ≡ D k
-  unfolding D T
-  D-is = ap (λ (m : ℕ). divisor (temperature m)) sums.metering_is
+  mass_most : mass ≤ mass_high
+  mass_most = rw q.sums.mass_is (mass_high_lem q.gas q.acceptable)
 
-  A-is : (air : ℕ) → air ≡ air_factor metering → air ≡ A k
-  unfolding A
-  A-is air e = e ∙ ap air_factor sums.metering_is
+  -- the summation, which the code has as a signed word
+  word : to_z w64 (of_z w64 summation) ≡ summation
+  word = summation_word q.gas q.acceptable q.sums.summation_is
 
-  Z-is : (z : ℕ) (s : ℤ) → s ≡ summation → z ≡ compression (tenth s) → z ≡ Z k
+  compression_least : {z : ℕ} → z ≡ compression (tenth (to_z w64 (of_z w64 summation))) → compression_low ≤ z
   unfolding Z S9
-  Z-is z s es e = e ∙ ap (λ (t : ℤ). compression (tenth t)) (es ∙ sums.summation_is)
+  compression_least e = rw (e, word, q.sums.summation_is) (Z-low q.gas q.acceptable)
 
-  Hs-is : (v z : ℕ) → v ≡ real (ideal_calorific superior (divisor (temperature metering))) z → z ≡ Z k → v ≡ Hs k
-  unfolding Hs
-  Hs-is v z e ez = stepped (λ (Hm D Z : ℕ). real (ideal_calorific Hm D) Z) e sums.superior_is D-is ez
+  air_most : {air : ℕ} → air ≡ air_factor metering → air ≤ air_high
+  air_most e = rw e (air_high_lem metering)
 
-  Hi-is : (v z : ℕ) → v ≡ real (ideal_calorific inferior (divisor (temperature metering))) z → z ≡ Z k → v ≡ Hi k
-  unfolding Hi
-  Hi-is v z e ez = stepped (λ (Hm D Z : ℕ). real (ideal_calorific Hm D) Z) e sums.inferior_is D-is ez
+  heat_ideal : {Hm ideal : ℕ} → Hm ≤ heat_high → ideal ≡ ideal_calorific Hm (divisor (temperature metering)) → ideal ≤ ideal_calorific_high
+  heat_ideal h e = rw e (ideal_calorific_high_lem _ _ h (divisor_low_lem metering))
 
-  rho-is : (v z : ℕ) → v ≡ real (ideal_density mass (divisor (temperature metering))) z → z ≡ Z k → v ≡ rho k
-  unfolding rho
-  rho-is v z e ez = stepped (λ (M D Z : ℕ). real (ideal_density M D) Z) e sums.mass_is D-is ez
+  mass_ideal : {ideal : ℕ} → ideal ≡ ideal_density mass (divisor (temperature metering)) → ideal ≤ ideal_high
+  mass_ideal e = rw e (ideal_density_high mass _ mass_most (divisor_low_lem metering))
 
-  d-is : (v air z : ℕ) → v ≡ real (ideal_relative mass air) z → air ≡ A k → z ≡ Z k → v ≡ d k
-  unfolding d G
-  d-is v air z e ea ez = stepped (λ (M A Z : ℕ). real (ideal_relative M A) Z) e sums.mass_is ea ez
+  relative_ideal : {air ideal : ℕ} → air ≡ air_factor metering → ideal ≡ ideal_relative mass air → ideal ≤ ideal_relative_high
+  relative_ideal {air} a e = rw e (ideal_relative_high_lem mass air mass_most (air_most a))
 
-  W-is : (v hs rel : ℕ) → v ≡ wobbe hs (root_of rel) → hs ≡ Hs k → rel ≡ d k → v ≡ W k
-  unfolding W r
-  W-is v hs rel e eh ed = stepped-index e eh ed
+  relative_least : {air ideal : ℕ} → air ≡ air_factor metering → ideal ≡ ideal_relative mass air → relative_low ≤ ideal
+  relative_least {air} a e = rw e (ideal_relative_low mass air mass_least (rw a (air_low_lem metering)))
+
+-- an ideal value that is at most `most` has a real value that is at most b
+fits : (most b : ℕ) {ideal z : ℕ} → ideal ≤ most → compression_low ≤ z → 10 ^ 9 * most ≤ compression_low * b → (0 < z) × (ideal * 10 ^ 9 ≤ b * z)
+fits most b h low room = (omega arith, omega (arith, mul-le-mul_left b low))
 
 pub compression_factor-z-requires : goal.compression_factor-z-requires
-compression_factor-z-requires c =
-    let q = c.requires in
-    rw (summation_word q.gas q.acceptable q.sums.summation_is, q.sums.summation_is) (summation_high_lem q.gas q.acceptable)
+compression_factor-z-requires c = let q = c.requires in rw (word q, q.sums.summation_is) (summation_high_lem q.gas q.acceptable)
 
-pub calorific_value-hs-requires : goal.calorific_value-hs-requires
-calorific_value-hs-requires c =
-    let q = c.requires in
-    let z = Z-is _ _ _ _ _ _ q.sums _ _ (summation_word q.gas q.acceptable q.sums.summation_is) c.compression_factor-z.ensures in
-    (omega (arith, q.sums.superior_is, superior_high q.gas q.acceptable), omega (arith, z, Z-low q.gas q.acceptable))
+pub ideal_calorific_value-requires : goal.ideal_calorific_value-requires
+ideal_calorific_value-requires c = omega (arith, superior_most c.requires)
 
-pub calorific_value-hi-requires : goal.calorific_value-hi-requires
-calorific_value-hi-requires c =
-    let q = c.requires in
-    let z = Z-is _ _ _ _ _ _ q.sums _ _ (summation_word q.gas q.acceptable q.sums.summation_is) c.compression_factor-z.ensures in
-    (omega (arith, q.sums.inferior_is, inferior_high q.gas q.acceptable), omega (arith, z, Z-low q.gas q.acceptable))
+pub ideal_calorific_value-requires-2 : goal.ideal_calorific_value-requires-2
+ideal_calorific_value-requires-2 c = omega (arith, inferior_most c.requires)
 
-pub density-rho-requires : goal.density-rho-requires
-density-rho-requires c =
-    let q = c.requires in
-    let z = Z-is _ _ _ _ _ _ q.sums _ _ (summation_word q.gas q.acceptable q.sums.summation_is) c.compression_factor-z.ensures in
-    (omega (arith, q.sums.mass_is, mass_high_lem q.gas q.acceptable), omega (arith, z, Z-low q.gas q.acceptable))
+pub ideal_density-requires : goal.ideal_density-requires
+ideal_density-requires c = omega (arith, mass_most c.requires)
 
-pub relative_density-d-requires : goal.relative_density-d-requires
-relative_density-d-requires c =
-    let q = c.requires in
-    let z = Z-is _ _ _ _ _ _ q.sums _ _ (summation_word q.gas q.acceptable q.sums.summation_is) c.compression_factor-z.ensures in
-    let air = A-is _ _ _ _ _ _ q.sums _ c.air_factor-air.ensures in
-    (omega (arith, q.sums.mass_is, mass_high_lem q.gas q.acceptable), omega (arith, air, A-high q.gas q.acceptable), omega (arith, z, Z-low q.gas q.acceptable))
+pub ideal_relative_density-requires : goal.ideal_relative_density-requires
+ideal_relative_density-requires c = (omega (arith, mass_most c.requires), air_most c.requires c.air_factor-air.ensures)
+
+pub real-hs-requires : goal.real-hs-requires
+real-hs-requires c =
+    let ideal = heat_ideal c.requires (superior_most c.requires) c.ideal_calorific_value.ensures in
+    (omega arith, fits ideal_calorific_high calorific_bound ideal (compression_least c.requires c.compression_factor-z.ensures) (omega arith))
+
+pub real-hi-requires : goal.real-hi-requires
+real-hi-requires c =
+    let ideal = heat_ideal c.requires (inferior_most c.requires) c.ideal_calorific_value-2.ensures in
+    (omega arith, fits ideal_calorific_high calorific_bound ideal (compression_least c.requires c.compression_factor-z.ensures) (omega arith))
+
+pub real-rho-requires : goal.real-rho-requires
+real-rho-requires c =
+    let ideal = mass_ideal c.requires c.ideal_density.ensures in
+    (omega arith, fits ideal_high density_bound ideal (compression_least c.requires c.compression_factor-z.ensures) (omega arith))
+
+pub real-d-requires : goal.real-d-requires
+real-d-requires c =
+    let ideal = relative_ideal c.requires c.air_factor-air.ensures c.ideal_relative_density.ensures in
+    (omega arith, fits ideal_relative_high relative_bound ideal (compression_least c.requires c.compression_factor-z.ensures) (omega arith))
 
 pub wobbe_index-w-requires : goal.wobbe_index-w-requires
 wobbe_index-w-requires c =
-    let q = c.requires in
-    let g = q.acceptable in
-    let z = Z-is _ _ _ _ _ _ q.sums _ _ (summation_word q.gas g q.sums.summation_is) c.compression_factor-z.ensures in
-    let hs = Hs-is _ _ _ _ _ _ q.sums _ _ c.calorific_value-hs.ensures z in
-    let rel = d-is _ _ _ _ _ _ q.sums _ _ _ c.relative_density-d.ensures (A-is _ _ _ _ _ _ q.sums _ c.air_factor-air.ensures) z in
-    (omega (arith, hs, Hs-high q.gas g), omega (arith, rel, d_low q.gas g), omega (arith, rel, d_high q.gas g))
+    let z = compression_least c.requires c.compression_factor-z.ensures in
+    let z_most : c.compression_factor-z.result.value ≤ 10 ^ 9 = rw c.compression_factor-z.ensures (compression_high _) in
+    let heat = heat_ideal c.requires (superior_most c.requires) c.ideal_calorific_value.ensures in
+    let most = relative_ideal c.requires c.air_factor-air.ensures c.ideal_relative_density.ensures in
+    let least = relative_least c.requires c.air_factor-air.ensures c.ideal_relative_density.ensures in (
+      rw c.real-hs.ensures (real_high _ _ z calorific_high (omega (arith, heat))),
+      rw c.real-d.ensures (real_low _ _ z z_most relative_low least),
+      rw c.real-d.ensures (real_high _ _ z relative_bound (omega (arith, most))),
+    )
 
+-- the chain of any composition with these sums
 pub returns : goal.returns
-returns c k sums =
-    let q = c.requires in
-    let z = Z-is _ _ _ _ _ _ sums _ _ (summation_word q.gas q.acceptable q.sums.summation_is) c.compression_factor-z.ensures in
-    let hs = Hs-is _ _ _ _ _ _ sums _ _ c.calorific_value-hs.ensures z in
-    let rel = d-is _ _ _ _ _ _ sums _ _ _ c.relative_density-d.ensures (A-is _ _ _ _ _ _ sums _ c.air_factor-air.ensures) z in
-    together _ _ z hs (Hi-is _ _ _ _ _ _ sums _ _ c.calorific_value-hi.ensures z) (rho-is _ _ _ _ _ _ sums _ _ c.density-rho.ensures z) rel
-    (W-is _ _ _ _ _ _ sums _ _ _ c.wobbe_index-w.ensures hs rel)
+unfolding T D S9 Z Hs Hi rho A G d r W
+returns c k sums = cc (word c.requires, sums.superior_is, sums.inferior_is, sums.mass_is, sums.summation_is, sums.metering_is)

@@ -11,5 +11,5 @@ returns c =
     let n = c.in_ok-record.ensures.number in
     let r = c.in_ok-record.ensures.same in
     let e = c.read_entries.ensures in
-    rw (c.combustion.ensures, c.metering.ensures, c.count.ensures.0, c.head.ensures, r)
+    rw (c.pair.ensures, c.count.ensures.0, c.head.ensures, r)
     (reads c.args.bytes.now _ _ (rw (c.entries.ensures, r) at e.0) (rw (c.entries.ensures, r) at e.1) n)

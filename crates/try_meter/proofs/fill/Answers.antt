@@ -1,6 +1,5 @@
--- Each call of the loop leaves the meter after one call more, and a sound one.
+-- Each call of the loop leaves the meter after one call more.
 use Rattle.std.proofs.Common.{refl, add-one}
-use Rattle.meter.proofs.Kept.{metering_keeps}
 use Rattle.try_meter.specs.Calls.{filled_by}
 use Rattle.try_meter.proofs.fill.Goals as goal
 
@@ -10,8 +9,4 @@ loop-i-init c = (refl, c.requires)
 
 pub loop-i-preserved : goal.loop-i-preserved
 unfolding filled_by
-loop-i-preserved c =
-    let e = c.metering-changed.ensures in (
-      rw (add-one, ← c.loop-i.invariant.0) e.stands,
-      metering_keeps c.loop-i.filled c.args.stream 10000000 _ _ e c.loop-i.invariant.1,
-    )
+loop-i-preserved c = rw (add-one, ← c.loop-i.invariant.0) c.metering.ensures

@@ -5,4 +5,4 @@ use Rattle.try_meter.specs.Calls.{filled_by}
 use Rattle.try_meter.proofs.fill.Given as goal
 
 abbrev pub invariant-loop-i : goal.invariant-loop-i
-invariant-loop-i l = (l.filled ≡ filled_by l.i l.initial.filled l.stream) × Sound l.filled
+invariant-loop-i l = (l.meter ≡ filled_by l.i l.initial.meter l.stream) × Sound l.meter

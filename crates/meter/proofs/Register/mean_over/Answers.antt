@@ -11,6 +11,8 @@ nearest_wide-requires c = let s = c in mean_wide s.args.self s.args.volume s.req
 
 pub new-requires : goal.new-requires
 new-requires c =
-    let s = c in
-    subst (λ (x : ℕ). x ≤ calorific_bound) (sym c.nearest_wide.ensures)
-    (mean_bounded s.args.self s.args.volume s.requires.0 s.requires.1 (omega (arith, c.if-volume-eq0.false)))
+    let s = c in (
+      omega arith,
+      subst (λ (x : ℕ). x ≤ calorific_bound) (sym c.nearest_wide.ensures)
+          (mean_bounded s.args.self s.args.volume s.requires.0 s.requires.1 (omega (arith, c.if-volume-eq0.false))),
+    )

@@ -1,6 +1,6 @@
 -- After i turns the sums are those of the first i parts.
-use Rattle.std.proofs.Common.{◌≡◌, refl, ap, nat_abs, add-one, arith, to_z-of_z, w64, ℤ, to_z, of_z}
-use Rattle.rounding.proofs.SignedWords.{fits64}
+use Rattle.std.proofs.Common.{◌≡◌, refl, add-one, arith, to_z-of_z, w64, ℤ, to_z, of_z}
+use Rattle.std.proofs.lemmas.Int.{fits_signed_from_abs}
 use Rattle.components.specs.Composition.{total}
 use Rattle.properties.specs.Chain.{S}
 use Rattle.printed_tables.specs.Gas.{gas, fraction_at, mass_part, volume_part, sum_to}
@@ -8,10 +8,7 @@ use Rattle.printed_tables.proofs.GasLaws.{s_value, fraction_high, mass_part_high
 use Rattle.printed_tables.proofs.gas.gas_totals.Goals as goal
 
 s_read : (n : ℤ) → n ≡ S gas → to_z w64 (of_z w64 n) ≡ S gas
-s_read n e = rw e (to_z-of_z (fits64 (S gas) (omega (arith, s_value))))
-
-pub size-s-requires : goal.size-s-requires
-size-s-requires c = omega (arith, ap nat_abs (s_read _ c.sums-sums.ensures.summation), s_value)
+s_read n e = rw e (to_z-of_z (fits_signed_from_abs w64 (S gas) (omega (arith, s_value))))
 
 pub loop-i-init : goal.loop-i-init
 unfolding sum_to
@@ -35,4 +32,5 @@ unfolding sum_to total
 returns c =
     let e : c.loop-i.i ≡ 8 = omega arith in
     let inv = c.loop-i.invariant in
-    rw (c.sums-sums.ensures.superior, c.sums-sums.ensures.mass, c.size-s.ensures, s_read _ c.sums-sums.ensures.summation, inv.1, inv.2, inv.3, e)
+    let sums = c.sums-sums.ensures in
+    rw (sums.superior, sums.mass, c.unsigned_abs-s.ensures.value, s_read _ sums.summation, inv.1, inv.2, inv.3, e)

@@ -1,25 +1,22 @@
 -- The loop keeps the sums of the entries before i; the sums over the entries are those over all lines.
-use Rattle.std.proofs.Common.{nat_abs, ap, arith}
+use Rattle.std.proofs.Common.{nat_abs, ap}
 use Rattle.components.specs.Table.{component_table}
 use Rattle.components.specs.Composition.{sum_of, over_lines, fraction_for}
-use Rattle.components.proofs.Summing.{no_sums, sums_small, next_sums, all_sums}
+use Rattle.components.proofs.Summing.{sums_small, next_sums, all_sums}
 use Rattle.properties.specs.Chain.{HmSuperior, M, S}
 use Rattle.printed_tables.proofs.GasLaws.{composition, line_in}
 use Rattle.printed_tables.proofs.gas.sums.Goals as goal
 
-pub loop-i-init : goal.loop-i-init
-loop-i-init c = rw c.no_sums-sums.ensures (no_sums _ _ _ _)
-
-pub add_to_sums-sums-requires : goal.add_to_sums-sums-requires
-add_to_sums-sums-requires c = let l = line_in _ c.loop-i-test.true in
+pub add-requires : goal.add-requires
+add-requires c = let l = line_in _ c.loop-i-test.true in
     record {
-      in_table = (l.0, l.1, omega arith, omega arith);
+      in_table = (l.0, l.1);
       room = sums_small c.loop-i.invariant composition;
     }
 
 pub loop-i-preserved : goal.loop-i-preserved
 loop-i-preserved c =
-    let e = c.add_to_sums-sums.ensures in
+    let e = c.add.ensures in
     next_sums c.loop-i.invariant composition c.loop-i-test.true e.superior e.inferior e.mass e.summation
 
 pub returns : goal.returns
