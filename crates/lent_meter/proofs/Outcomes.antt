@@ -1,12 +1,11 @@
 -- What a call on lent words gives, from the number that its code found and what it wrote; and what a row's call gives, said of all the
 -- words.
 use mathlib.Core.Path.{◌≡◌, refl, sym, ap, subst, ◌∙◌}
-use mathlib.Core.List.{List, [], ◌∷◌, map}
-use Prim.Native.Nat.{ℕ, zero, suc, ◌≤◌, ◌<◌}
-use native.Mathlib.Nat.{not-suc-le-zero, le_of_suc-le-suc}
+use mathlib.Core.List.{List, [], ◌∷◌}
+use Prim.Native.Nat.{ℕ, zero, suc, ◌≤◌}
 use native.Mathlib.Omega.{arith}
 use lib.Dec.{ltb}
-use lib.ListN.{length, get_or, set}
+use lib.ListN.{get_or, set}
 use lib.Seq.{set-get_or, get_or-set_other}
 use Rattle.std.proofs.lemmas.List.{get_or-map, map-set}
 use Rattle.records.specs.Order.{Order, first_of, decided, mapped}
