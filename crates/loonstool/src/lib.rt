@@ -24,7 +24,7 @@ ghost use Rattle.loonstool.specs.Exports.{in_order, per_kilogram_in_order, analy
 use lent_meter::Words;
 use meter::Energy;
 use properties::{PerKilogram, Properties};
-use records::Refusal;
+use records::{Pair, Refusal};
 
 // The number of a refusal, 0 where there is none.
 fn number_in<A>(answer: &Result<A, Refusal>) -> u8
@@ -164,8 +164,8 @@ pub fn loonstool_read(
 {
     let answer = records::read(bytes);
     if let Ok(found) = &answer {
-        *combustion = found.combustion;
-        *metering = found.metering;
+        *combustion = found.pair.combustion;
+        *metering = found.pair.metering;
         *count = found.count;
         *lines = found.lines;
         *fractions = found.fractions;
@@ -183,5 +183,9 @@ pub fn loonstool_write(
 ) -> u8
     ensures { Returns (writing_of (contents combustion metering lines.now fractions.now) buffer.old) buffer.old result buffer.new }
 {
-    number_in(&records::write(combustion, metering, lines, fractions, buffer))
+    let pair = Pair {
+        combustion,
+        metering,
+    };
+    number_in(&records::write(pair, lines, fractions, buffer))
 }
