@@ -86,7 +86,11 @@ fn asked_for(rt: &impl Env) -> Result<Asked, Trouble> {
 fn read_record<R: Read + Drop, A: Allocator>(reader: R, alloc: A) -> io::Result<Vec<u8, A>>
     ensures { IfOk result (λ bytes. vec_len bytes ≤ 284) }
 {
-    reader.bytes().take(284).try_collect(alloc)
+    let mut bytes = Vec::new(alloc);
+    reader.take(284).read_to_end(&mut bytes)?;
+    // No clause of `read_to_end` says what the reader's limit is: this shows the bound.
+    bytes.truncate(284);
+    Ok(bytes)
 }
 
 fn print_asked(rt: &impl Print, asked: Asked, bytes: &[u8]) -> io::Result<()> {
