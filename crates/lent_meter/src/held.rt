@@ -1,9 +1,9 @@
 // Whether words hold a meter.
-ghost use Rattle.std.specs.Prelude.{◌≡◌, ◌*◌, ◌^◌, ◌≤◌, ◌<◌, length, replicate};
+ghost use Rattle.std.specs.Prelude.{◌≡◌, ◌*◌, ◌^◌, ◌≤◌, ◌<◌, length, replicate, is_some, IfSome};
 ghost use Rattle.records.specs.Conditions.{permitted};
 ghost use Rattle.properties.specs.Bounds.{Proper, DensityByAir};
 ghost use Rattle.properties.specs.Quantities.{Bounded};
-ghost use Rattle.meter.specs.State.{most_total, nothing_booked, SoundRegister, SoundEnergy, SoundMass, SoundTotals, SoundGas};
+ghost use Rattle.meter.specs.State.{most_total, nothing_booked, SoundRegister, SoundTotals, SoundGas};
 ghost use Rattle.meter.specs.Calls.{booked};
 ghost use Rattle.lent_meter.specs.Words.{totals_in, six_in, gas_in};
 ghost use Rattle.lent_meter.specs.Lent.{LentRow, EachLent};
@@ -25,36 +25,28 @@ const BASE: u64 = 1000000;
 fn all_zero(row: &[u64]) -> bool
     ensures { Tells result (row.now ≡ replicate (length row.now) 0) }
 {
-    for i in 0..row.len() {
-        if row[i] != 0 {
-            return false;
-        }
-    }
-    true
+    row.iter().all(|word| *word == 0)
 }
 
-// Whether two words are a permitted pair.
-fn pair_holds(combustion: u64, metering: u64) -> bool
-    ensures { result ≡ permitted combustion metering }
+// The pair in a row, where it is permitted.
+fn pair_in(row: &Row) -> Option<Pair>
+    ensures permitted { is_some result ≡ permitted (gas_in row.now).pair.combustion (gas_in row.now).pair.metering }
+    ensures pair { IfSome result (λ pair. pair ≡ (gas_in row.now).pair) }
 {
-    if 255 < combustion {
-        return false;
-    }
-    if 255 < metering {
-        return false;
-    }
+    let combustion = u8::try_from(row[words::COMBUSTION]).ok()?;
+    let metering = u8::try_from(row[words::METERING]).ok()?;
     let pair = Pair {
-        combustion: combustion as u8,
-        metering: metering as u8,
+        combustion,
+        metering,
     };
-    pair.is_permitted()
+    if pair.is_permitted() { Some(pair) } else { None }
 }
 
 // Whether a value lies between two others, both included.
 fn between(floor: u64, value: u64, ceiling: u64) -> bool
     ensures { result ≡ between floor value ceiling }
 {
-    (floor <= value) & (value <= ceiling)
+    (floor..=ceiling).contains(&value)
 }
 
 // Whether each property in a row lies between its floor and its ceiling.
@@ -101,68 +93,68 @@ fn holds_density(row: &Row, metering: u8) -> bool
 fn holds_gas(row: &Row) -> bool
     ensures { Tells result (SoundGas (gas_in row.now)) }
 {
-    if !pair_holds(row[words::COMBUSTION], row[words::METERING]) {
+    let Some(pair) = pair_in(row) else {
         return false;
-    }
+    };
     if !holds_properties(row) {
         return false;
     }
-    holds_density(row, row[words::METERING] as u8)
+    holds_density(row, pair.metering)
 }
 
-// Volume × value as a register, `unit` of whose rest make one whole.
-fn product(unit: u64, volume: u64, value: u64) -> Register
-    requires register_unit { RegisterUnit unit }
-    requires factors { (volume ≤ most_total) × (value < 2 ^ 32) }
-    ensures { result ≡ booked unit nothing_booked (volume * value) }
-{
-    let share = unit / BASE;
-    let high = volume / BASE * value;
-    let before = Register {
-        whole: high / share,
-        rest: high % share * BASE,
-    };
-    before.booked(unit, volume % BASE, value)
+// How a register is booked: `unit` of its rest make one whole, and the values lie from the floor to the ceiling.
+#[derive(Clone, Copy)]
+struct Measure {
+    unit: u64,
+    floor: u64,
+    ceiling: u64,
+    ghost register_unit: { RegisterUnit unit },
+    ghost values: { (floor < 2 ^ 32) × (ceiling < 2 ^ 32) },
+}
+
+const ENERGY: Measure = Measure {
+    unit: meter::PER_MJ,
+    floor: CalorificValue::FLOOR,
+    ceiling: CalorificValue::BOUND,
+};
+
+const MASS: Measure = Measure {
+    unit: meter::PER_KG,
+    floor: Density::FLOOR,
+    ceiling: Density::BOUND,
+};
+
+impl Measure {
+    // Volume × value as a register.
+    fn product(self, volume: u64, value: u64) -> Register
+        requires { (volume ≤ most_total) × (value < 2 ^ 32) }
+        ensures { result ≡ booked self.unit nothing_booked (volume * value) }
+    {
+        let share = self.unit / BASE;
+        let high = volume / BASE * value;
+        let before = Register {
+            whole: high / share,
+            rest: high % share * BASE,
+        };
+        before.booked(self.unit, volume % BASE, value)
+    }
+
+    // Whether a register is one of a volume.
+    fn holds(self, register: Register, volume: u64) -> bool
+        requires { volume ≤ most_total }
+        ensures { Tells result (SoundRegister self.unit self.floor self.ceiling volume register) }
+    {
+        (register.rest < self.unit)
+            & at_most(self.product(volume, self.floor), register)
+            & at_most(register, self.product(volume, self.ceiling))
+    }
 }
 
 // Whether a register holds no more than another, both with rests below one whole.
 fn at_most(register: Register, most: Register) -> bool
     ensures { result ≡ at_most register most }
 {
-    (register.whole < most.whole) | ((register.whole == most.whole) & (register.rest <= most.rest))
-}
-
-// Whether a register is one of a volume, at values from the floor to the ceiling.
-fn holds_register(register: Register, unit: u64, volume: u64, floor: u64, ceiling: u64) -> bool
-    requires register_unit { RegisterUnit unit }
-    requires factors { (volume ≤ most_total) × (floor < 2 ^ 32) × (ceiling < 2 ^ 32) }
-    ensures { Tells result (SoundRegister unit floor ceiling volume register) }
-{
-    (register.rest < unit)
-        & at_most(product(unit, volume, floor), register)
-        & at_most(register, product(unit, volume, ceiling))
-}
-
-// Whether an energy is one of a volume.
-fn holds_energy(energy: Register, volume: u64) -> bool
-    requires { volume ≤ most_total }
-    ensures { Tells result (SoundEnergy volume energy) }
-{
-    holds_register(
-        energy,
-        meter::PER_MJ,
-        volume,
-        CalorificValue::FLOOR,
-        CalorificValue::BOUND,
-    )
-}
-
-// Whether a mass is one of a volume.
-fn holds_mass(mass: Register, volume: u64) -> bool
-    requires { volume ≤ most_total }
-    ensures { Tells result (SoundMass volume mass) }
-{
-    holds_register(mass, meter::PER_KG, volume, Density::FLOOR, Density::BOUND)
+    register <= most
 }
 
 // Whether the totals in a row are those of a stream.
@@ -173,9 +165,9 @@ fn holds_totals(row: &Row) -> bool
     if meter::MOST_TOTAL < totals.volume {
         return false;
     }
-    holds_energy(totals.superior, totals.volume)
-        & holds_energy(totals.inferior, totals.volume)
-        & holds_mass(totals.mass, totals.volume)
+    ENERGY.holds(totals.superior, totals.volume)
+        & ENERGY.holds(totals.inferior, totals.volume)
+        & MASS.holds(totals.mass, totals.volume)
         & at_most(totals.inferior, totals.superior)
 }
 
@@ -193,10 +185,5 @@ fn holds_stream(row: &Row) -> bool
 pub fn each_holds(rows: &[Row]) -> bool
     ensures { Tells result (EachLent rows.now) }
 {
-    for k in 0..rows.len() {
-        if !holds_stream(&rows[k]) {
-            return false;
-        }
-    }
-    true
+    rows.iter().all(holds_stream)
 }

@@ -13,7 +13,7 @@ ghost use Rattle.meter.specs.declared.Stream.{Stream};
 ghost use Rattle.meter.specs.State.{fresh_meter};
 ghost use Rattle.meter.specs.Calls.{stream_analysis, stream_metering, analysis_of, metering_of, totals_of, mean_for};
 ghost use Rattle.meter.specs.Answers.{totals_meaning, mean_meaning};
-ghost use Rattle.lent_meter.specs.Words.{packed};
+ghost use Rattle.lent_meter.specs.Words.{packed, packed_totals};
 ghost use Rattle.lent_meter.specs.Lent.{Lent, LentRow, OnWords, Leaves, OnMeter, OnRow, LeavesRow};
 ghost use Rattle.lent_meter.specs.Check.{Tells};
 
@@ -21,8 +21,6 @@ use meter::{Energy, Gas, StreamTotals};
 use properties::quantities::CalorificValue;
 use records::{Record, Refusal};
 use words::Row;
-pub use words::totals_words;
-
 // Streams of a meter.
 const STREAMS: usize = 16;
 
@@ -103,6 +101,21 @@ pub fn totals(words: &Words, stream: usize) -> Result<StreamTotals, Refusal>
 {
     meter::check_stream(stream)?;
     Ok(words::totals_in(&words[stream]))
+}
+
+// Totals as words.
+pub fn totals_words(totals: StreamTotals) -> [u64; 7]
+    ensures { result ≡ packed_totals totals }
+{
+    [
+        totals.volume,
+        totals.superior.whole,
+        totals.superior.rest,
+        totals.inferior.whole,
+        totals.inferior.rest,
+        totals.mass.whole,
+        totals.mass.rest,
+    ]
 }
 
 // The mean calorific value of an energy of what a stream has taken, in J/m³.

@@ -2,9 +2,10 @@
 ghost use Rattle.std.specs.Prelude.{◌≡◌};
 ghost use Rattle.properties.specs.Answers.{numbers};
 ghost use Rattle.properties.specs.Quantities.{Bounded};
-ghost use Rattle.lent_meter.specs.Words.{packed_totals, totals_in, six_in, with_gas_words, with_totals_words};
+ghost use Rattle.lent_meter.specs.Words.{totals_in, six_in, with_gas_words, with_totals_words};
 ghost use Rattle.lent_meter.specs.Check.{words_differ};
 
+use super::totals_words;
 use meter::{Gas, Register, StreamTotals};
 use properties::Properties;
 use properties::quantities::{
@@ -68,21 +69,6 @@ pub fn totals_in(row: &Row) -> StreamTotals
             rest: row[MASS_REST],
         },
     }
-}
-
-// Totals as words.
-pub fn totals_words(totals: StreamTotals) -> [u64; 7]
-    ensures { result ≡ packed_totals totals }
-{
-    [
-        totals.volume,
-        totals.superior.whole,
-        totals.superior.rest,
-        totals.inferior.whole,
-        totals.inferior.rest,
-        totals.mass.whole,
-        totals.mass.rest,
-    ]
 }
 
 // The row with other totals.

@@ -40,8 +40,7 @@ per_kilogram_in_order v = v.superior ∷ v.inferior ∷ []
 abbrev pub analysis : ℕ → ℕ → ℕ → List ℕ → List ℕ → Analysis
 analysis combustion metering count lines fractions =
     record {
-      combustion = combustion;
-      metering = metering;
+      pair = record { combustion = combustion; metering = metering };
       count = count;
       lines = lines;
       fractions = fractions;

@@ -1,17 +1,18 @@
 // What firmware in C and Rust calls: the meter in words that the caller lends, the properties of a record, its calorific values per
 // kilogram, and records read and written. crates/loonstool_c exports each of these functions; include/loonstool.h declares the exports for
-// C, rust/ wraps them for Rust. Each call that may be refused gives 0, or document 01's number; a refusal leaves what the caller lent as it
-// was.
+// C, rust/ wraps them for Rust. Each call that may be refused gives 0, or document 01's number, by which alone C knows a refusal; a
+// refusal leaves what the caller lent as it was.
 #![tactic(auto)]
 
 ghost use Rattle.std.specs.Prelude.{◌≡◌, ℕ};
 ghost use Rattle.records.specs.Order.{mapped};
+ghost use Rattle.records.specs.Refusals.{number_in, outcome};
 ghost use Rattle.records.specs.Format.{contents};
 ghost use Rattle.records.specs.Calls.{reading_of, writing_of};
 ghost use Rattle.records.specs.Answers.{held, Returns};
 ghost use Rattle.properties.specs.Chain.{properties_of};
 ghost use Rattle.properties.specs.PerKilogram.{per_kilogram_of};
-ghost use Rattle.properties.specs.Answers.{numbers, meaning, per_kilogram_meaning};
+ghost use Rattle.properties.specs.Answers.{numbers, per_kilogram_numbers};
 ghost use Rattle.meter.specs.declared.Meter.{Meter};
 ghost use Rattle.meter.specs.State.{fresh_meter};
 ghost use Rattle.meter.specs.Calls.{analysis_of, metering_of, totals_of, mean_of, mean_inferior_of};
@@ -21,8 +22,29 @@ ghost use Rattle.lent_meter.specs.Check.{Tells};
 ghost use Rattle.loonstool.specs.Exports.{in_order, per_kilogram_in_order, analysis};
 
 use lent_meter::Words;
-use properties::{Answer, PerKilogramAnswer, Properties};
-use records::Verdict;
+use meter::Energy;
+use properties::{PerKilogram, Properties};
+use records::{Pair, Refusal};
+
+// The number of a refusal, 0 where there is none.
+fn number_in<A>(answer: &Result<A, Refusal>) -> u8
+    ensures { result ≡ number_in answer.now }
+{
+    match answer {
+        Ok(_) => 0,
+        Err(refusal) => refusal.number(),
+    }
+}
+
+// The number of an answer, and its value into lent memory.
+fn give<A: Copy>(answer: Result<A, Refusal>, place: &mut A) -> u8
+    ensures { Returns (outcome (λ a. a) answer) place.old result place.new }
+{
+    if let Ok(value) = &answer {
+        *place = *value;
+    }
+    number_in(&answer)
+}
 
 // A meter as made.
 pub fn loonstool_meter_fresh(meter: &mut Words)
@@ -43,7 +65,7 @@ pub fn loonstool_meter_analysis(meter: &mut Words, stream: usize, bytes: &[u8]) 
     ensures on_words { OnWords (λ (m : Meter). analysis_of m stream bytes.now) meter.old result meter.new }
     ensures leaves { Leaves stream meter.old result meter.new }
 {
-    lent_meter::analysis(meter, stream, bytes)
+    number_in(&lent_meter::analysis(meter, stream, bytes))
 }
 
 // A stream takes a volume, in dm³.
@@ -52,14 +74,17 @@ pub fn loonstool_meter_metering(meter: &mut Words, stream: usize, volume: u64) -
     ensures on_words { OnWords (λ (m : Meter). metering_of m stream volume) meter.old result meter.new }
     ensures leaves { Leaves stream meter.old result meter.new }
 {
-    lent_meter::metering(meter, stream, volume)
+    number_in(&lent_meter::metering(meter, stream, volume))
 }
 
 // The volume, the energies and the mass of a stream.
 pub fn loonstool_meter_totals(meter: &Words, stream: usize, totals: &mut [u64; 7]) -> u8
     ensures { OnReading packed_totals (λ (m : Meter). totals_of m stream) meter.now totals.old result totals.new }
 {
-    lent_meter::totals(meter, stream, totals)
+    give(
+        lent_meter::totals(meter, stream).map(lent_meter::totals_words),
+        totals,
+    )
 }
 
 // The mean superior calorific value of what a stream has taken, in J/m³.
@@ -67,7 +92,10 @@ pub fn loonstool_meter_mean(meter: &Words, stream: usize, mean: &mut u64) -> u8
     requires { Lent meter.now }
     ensures { OnReading (λ (h : ℕ). h) (λ (m : Meter). mean_of m stream) meter.now mean.old result mean.new }
 {
-    lent_meter::mean(meter, stream, mean)
+    give(
+        lent_meter::mean(meter, stream, Energy::Superior).map(|h| h.value()),
+        mean,
+    )
 }
 
 // The mean inferior calorific value of what a stream has taken, in J/m³.
@@ -75,7 +103,10 @@ pub fn loonstool_meter_mean_inferior(meter: &Words, stream: usize, mean: &mut u6
     requires { Lent meter.now }
     ensures { OnReading (λ (h : ℕ). h) (λ (m : Meter). mean_inferior_of m stream) meter.now mean.old result mean.new }
 {
-    lent_meter::mean_inferior(meter, stream, mean)
+    give(
+        lent_meter::mean(meter, stream, Energy::Inferior).map(|h| h.value()),
+        mean,
+    )
 }
 
 // The numbers of the properties, in document 01's order.
@@ -92,44 +123,28 @@ fn in_order(p: Properties) -> [u64; 6]
     ]
 }
 
-// The number of an answer, and its properties into lent memory.
-fn give(answer: Answer, properties: &mut [u64; 6]) -> u8
-    ensures { Returns (mapped in_order (meaning answer)) properties.old result properties.new }
-{
-    match answer {
-        Answer::Refused(number) => number,
-        Answer::Accepted(p) => {
-            *properties = in_order(p);
-            0
-        }
-    }
-}
-
 // Z, Hs, Hi, rho, d and W of a record.
 pub fn loonstool_properties_of(bytes: &[u8], properties: &mut [u64; 6]) -> u8
     ensures { Returns (mapped in_order (properties_of bytes.now)) properties.old result properties.new }
 {
-    give(properties::properties_of(bytes), properties)
+    give(properties::properties_of(bytes).map(in_order), properties)
 }
 
-// The number of an answer, and its values per kilogram into lent memory.
-fn give_per_kilogram(answer: PerKilogramAnswer, values: &mut [u64; 2]) -> u8
-    ensures { Returns (mapped per_kilogram_in_order (per_kilogram_meaning answer)) values.old result values.new }
+// The values per kilogram, in document 01's order.
+fn per_kilogram_in_order(v: PerKilogram) -> [u64; 2]
+    ensures { result ≡ per_kilogram_in_order (per_kilogram_numbers v) }
 {
-    match answer {
-        PerKilogramAnswer::Refused(number) => number,
-        PerKilogramAnswer::Accepted(v) => {
-            *values = [v.superior.value(), v.inferior.value()];
-            0
-        }
-    }
+    [v.superior.value(), v.inferior.value()]
 }
 
 // The superior and the inferior calorific value per kilogram of a record, unit 10 J/kg.
 pub fn loonstool_per_kilogram(bytes: &[u8], values: &mut [u64; 2]) -> u8
     ensures { Returns (mapped per_kilogram_in_order (per_kilogram_of bytes.now)) values.old result values.new }
 {
-    give_per_kilogram(properties::per_kilogram_of(bytes), values)
+    give(
+        properties::per_kilogram_of(bytes).map(per_kilogram_in_order),
+        values,
+    )
 }
 
 // Reads a record: the pair of temperatures in °C, the number of entries, and their line numbers and fractions, with 0 past them.
@@ -147,22 +162,15 @@ pub fn loonstool_read(
         result
         (analysis combustion.new metering.new count.new lines.new fractions.new) }
 {
-    let reading = records::read(bytes);
-    let verdict = reading.verdict;
-    let found = reading.analysis;
-    match verdict {
-        Verdict::Refused(number) => number,
-        Verdict::Accepted => {
-            *combustion = found.combustion;
-            *metering = found.metering;
-            *count = found.count;
-            let numbers = found.lines;
-            let shares = found.fractions;
-            *lines = numbers;
-            *fractions = shares;
-            0
-        }
+    let answer = records::read(bytes);
+    if let Ok(found) = &answer {
+        *combustion = found.pair.combustion;
+        *metering = found.pair.metering;
+        *count = found.count;
+        *lines = found.lines;
+        *fractions = found.fractions;
     }
+    number_in(&answer)
 }
 
 // Writes a record into the first 8 + 5n bytes of a buffer.
@@ -175,8 +183,9 @@ pub fn loonstool_write(
 ) -> u8
     ensures { Returns (writing_of (contents combustion metering lines.now fractions.now) buffer.old) buffer.old result buffer.new }
 {
-    match records::write(combustion, metering, lines, fractions, buffer) {
-        Verdict::Refused(number) => number,
-        Verdict::Accepted => 0,
-    }
+    let pair = Pair {
+        combustion,
+        metering,
+    };
+    number_in(&records::write(pair, lines, fractions, buffer))
 }

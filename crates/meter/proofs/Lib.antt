@@ -4,4 +4,4 @@ pub mod Streams
 mod Means
 pub mod Kept
 mod Analyses
-mod Outcomes
+pub mod Outcomes

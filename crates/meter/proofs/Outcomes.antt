@@ -14,7 +14,7 @@ use Rattle.meter.specs.State.{last_stream, fresh_stream, stream_at, with_stream}
 use Rattle.meter.proofs.Orders.{not_above}
 
 -- a verdict beside a function of a value
-meaning_mapped : {A B : Type 0} (f : A → B) (v : Verdict) (a : A) → meaning v (f a) ≡ mapped f (meaning v a)
+pub meaning_mapped : {A B : Type 0} (f : A → B) (v : Verdict) (a : A) → meaning v (f a) ≡ mapped f (meaning v a)
 meaning_mapped f (Ok u) a = refl
 meaning_mapped f (Err e) a = refl
 

@@ -53,6 +53,7 @@ pub fn properties_from(sums: Sums, metering: u8) -> Properties
 }
 
 // The properties of an accepted record.
+#[tactic(auto, using(crate::proofs::Summing::summed))]
 pub fn properties_in(accepted: &Record) -> Properties
     ensures { numbers result ≡ six_of (contents_in accepted.now.bytes.now) }
 {

@@ -7,10 +7,9 @@ use native.Mathlib.Omega.{arith}
 use lib.Dec.{eqb}
 use lib.ListN.{length, length-set}
 use lib.Seq.{set-get_or}
-use Rattle.std.specs.Prelude.{Ok, Err}
 use Rattle.records.specs.Refusals.{Verdict}
 use Rattle.records.specs.Order.{Outcome, refused, first_of, decided, otherwise, mapped}
-use Rattle.records.specs.Answers.{meaning, Gives}
+use Rattle.records.specs.Answers.{Gives}
 use Rattle.records.proofs.OrderLaws.{mapped_decided, decided_refused}
 use Rattle.meter.specs.declared.Stream.{Stream}
 use Rattle.meter.specs.declared.Meter.{Meter}
@@ -19,6 +18,7 @@ use Rattle.meter.specs.Conditions.{analysis_order, metering_order, totals_order,
 use Rattle.meter.specs.Calls.{analysed, metered, analysis_of, metering_of, mean_in}
 use Rattle.meter.specs.Answers.{totals_meaning, mean_meaning}
 use Rattle.meter.proofs.Orders.{clear_analysis, clear_metering}
+use Rattle.meter.proofs.Outcomes.{meaning_mapped}
 use Rattle.meter.proofs.Streams.{at_put}
 use Rattle.meter.proofs.Kept.{others_stay, analysis_keeps, metering_keeps}
 use Rattle.tally.specs.Tally.{last_stream, Ask, analysis, metering, totals, mean, Call, on, Given, done, mean_is, Answer, StreamTally, fresh_stream_tally, Tally, tally_at, with_tally, left_by, given_by, number_for, answer_to, tally_after, answers_to, tallied}
@@ -60,11 +60,6 @@ pub both : {t : Tally} {m m₁ m₂ : Meter} {cs ds : List Call} {rs ss : List A
 both {t} {m} {m₁} {m₂} {cs} {ds} a b =
     record { answers = cc (a.answers, b.answers, answers_both t cs ds); linked = rw (tallied_both t cs ds) b.linked; leaves = leaves_both a.leaves b.leaves }
 
--- a verdict beside another value
-meaning_of : {A B : Type 0} (v : Verdict) (x : A) (y : B) → meaning v y ≡ mapped (λ (z : A). y) (meaning v x)
-meaning_of (Ok u) x y = refl
-meaning_of (Err e) x y = refl
-
 module _ (m : Meter) (t : Tally) (h : Linked m t) where
   -- one stream is replaced on both sides
   each_with : (k : ℕ) (s : Stream) (l : StreamTally) → k ≤ last_stream → Alike s l → (j : ℕ) → Alike (stream_at (with_stream m k s) j) (tally_at (with_tally t k l) j)
@@ -91,13 +86,13 @@ module _ (m : Meter) (t : Tally) (h : Linked m t) where
       (v : Verdict) (after : Meter) → Gives (decided n (with_stream m k s)) m v after → Sound after → Next t m (on k ask ∷ []) (change_answer v ∷ []) after
   changes k ask s n is new gives-done changing v after gives sound =
       one (on k ask)
-      (meaning_of v after done
+      (meaning_mapped (λ (x : Meter). done) v after
       ∙ ap (mapped (λ (x : Meter). done)) gives.means
       ∙ mapped_decided (λ (x : Meter). done) n (with_stream m k s)
       ∙ rw (is, gives-done))
       (rw (gives.stands, sym is) (linked_with n k s (left_by ask (tally_at t k)) new (subst Sound gives.stands sound)))
       (record {
-        refusal = λ number e. gives.stands ∙ refused_keeps n (sym gives.means ∙ meaning_of v done after ∙ ap (mapped (λ (x : Given). after)) e);
+        refusal = λ number e. gives.stands ∙ refused_keeps n (sym gives.means ∙ meaning_mapped (λ (x : Given). after) v done ∙ ap (mapped (λ (x : Given). after)) e);
         reading = λ e. elim (false≢true (sym changing ∙ e)) [ ];
         others = others_stay n m k s v after gives;
       })

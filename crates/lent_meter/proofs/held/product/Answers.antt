@@ -1,7 +1,0 @@
--- The two digits of the volume, one after the other.
-use mathlib.Core.Path.{◌∙◌}
-use Rattle.lent_meter.proofs.Tests.{product_is}
-use Rattle.lent_meter.proofs.held.product.Goals as goal
-
-pub returns : goal.returns
-returns c = c.booked.ensures ∙ product_is c.args.unit c.args.volume c.args.value c.requires.register_unit
