@@ -29,9 +29,6 @@ pub large_metering : (c m : ℕ) → 255 < m → false ≡ permitted c m
 large_metering c m h =
     rw (ne_eqb m 15 (λ e. omega arith), ne_eqb m 0 (λ e. omega arith), ne_eqb m 20 (λ e. omega arith), and-false (eqb c 15), and-false (eqb c 0), and-false (eqb c 25), and-false (eqb c 20))
 
-pub metering_small : (c m : ℕ) → permitted c m ≡ true → m < 2 ^ 8
-metering_small c m h = let small : 255 < m → ⊥ = λ l. true≢false (sym h ∙ sym (large_metering c m l)) in omega arith
-
 -- the properties
 between_only : (a x b : ℕ) → between a x b ≡ true → (a ≤ x) × (x ≤ b)
 between_only a x b e = let z = and_parts _ _ e in (leb-true a x z.0, leb-true x b z.1)
@@ -163,7 +160,7 @@ register_holds u floor ceiling v e least most some low high = go (ltb e.rest u) 
         let below = amount_at_most u least e (bound_rest u v floor some least low) rest in
         let above = amount_at_most u e most rest (bound_rest u v ceiling some most high) in
         record {
-          only = λ y. let z = and_parts _ _ y in record { rest = rest; least = omega (arith, below.only z.0, l); most = omega (arith, above.only z.1, m) };
+          only = λ y. let z = and_parts (at_most least e) (at_most e most) y in record { rest = rest; least = omega (arith, below.only z.0, l); most = omega (arith, above.only z.1, m) };
           always = λ s. rw (below.always (omega (arith, s.least, l)), above.always (omega (arith, s.most, m)));
         }
     go false h = tells_false (λ s. omega (arith, ltb-false e.rest u h, s.rest))

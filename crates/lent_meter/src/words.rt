@@ -47,6 +47,7 @@ const MASS: usize = 14;
 
 const MASS_REST: usize = 15;
 
+// An array as C lends it. A `From` of it could stand only in the crate of the type that it is read as or written from.
 pub type Row = [u64; WORDS];
 
 // The totals in a row.
