@@ -11,7 +11,8 @@ use super::parts::{Counts, Part, count};
 use super::places::{Place, print_differences};
 use super::{gas, text};
 use properties::quantities::{CalorificValue, RelativeDensity};
-use properties::{Answer, Properties, steps};
+use properties::{Properties, steps};
+use records::{Pair, Refusal};
 use std::io;
 
 // The values of the figures of the text, six to a row.
@@ -103,12 +104,21 @@ fn print_figures(rt: &impl Print, p: Properties) -> io::Result<()> {
     println!(rt; "annex D: {}", count(rows, &text))
 }
 
-pub fn print_comparison(rt: &impl Print) -> io::Result<()> {
+// The properties of the gas at 15/15, from its record.
+fn properties() -> Result<Properties, Refusal> {
+    let pair = Pair {
+        combustion: 15,
+        metering: 15,
+    };
     let mut record = [0u8; 48];
-    records::write(15, 15, &gas::LINES, &gas::FRACTIONS, &mut record);
-    match properties::properties_of(&record) {
-        Answer::Accepted(p) => print_figures(rt, p)?,
-        Answer::Refused(_) => println!(rt; "annex D: the record is refused")?,
+    records::write(pair, &gas::LINES, &gas::FRACTIONS, &mut record)?;
+    properties::properties_of(&record)
+}
+
+pub fn print_comparison(rt: &impl Print) -> io::Result<()> {
+    match properties() {
+        Ok(p) => print_figures(rt, p)?,
+        Err(_) => println!(rt; "annex D: the record is refused")?,
     }
     println!(rt; "not compared: the fractions x of table D.1, the input")?;
     println!(rt; "not compared: the constants p2, T2, R, molar mass of air, Z of air")?;

@@ -1,5 +1,5 @@
 // Makes 10,000,000 metering calls over all sixteen streams, and prints for each stream its number, its volume, of each energy whole MJ,
-// rest in mJ and mean, and of the mass whole kg and rest in 10^-11 kg. rust/benches/by_value.rs runs it, makes the same calls on meters
+// rest in mJ and mean, and of the mass whole kg and rest in 10^-11 kg. rust/benches/program.rs runs it, makes the same calls on meters
 // in Rust, and compares what is printed and the times.
 #![tactic(auto)]
 

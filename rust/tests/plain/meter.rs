@@ -74,12 +74,6 @@ pub struct Meter {
     pub streams: [Stream; STREAMS],
 }
 
-/// A meter after a call that takes it by value, and the call's answer.
-pub struct Changed {
-    pub meter: Meter,
-    pub answer: Result<(), u8>,
-}
-
 impl Meter {
     /// A meter without analyses, volumes, energies and masses 0.
     pub fn fresh() -> Self {
@@ -127,19 +121,10 @@ impl Meter {
         Ok(())
     }
 
-    /// The same with the meter by value and returned, the form that document 01 names.
-    pub fn metering_by_value(mut self, stream: usize, volume: u64) -> Changed {
-        let answer = self.metering(stream, volume);
-        Changed {
-            meter: self,
-            answer,
-        }
-    }
-
     /// The same as a call of its own, as from another library.
     #[inline(never)]
-    pub fn metering_by_call(self, stream: usize, volume: u64) -> Changed {
-        self.metering_by_value(stream, volume)
+    pub fn metering_by_call(&mut self, stream: usize, volume: u64) -> Result<(), u8> {
+        self.metering(stream, volume)
     }
 
     /// Volume in dm³, both energies in whole MJ and their rests in mJ, mass in

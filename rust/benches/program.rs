@@ -1,43 +1,47 @@
-//! Times 10,000,000 metering calls on the proved `Meter` of crates/meter, by the
-//! executable of crates/time_meter, against the same work with a plain meter, each
-//! in its own process. The proved meter is changed in place and has 1,408 bytes,
-//! and so has the plain one. That is passed by value and returned, the form that
-//! document 01 names, once with a call for each volume and once inlined, where the
-//! compiler finds that it can write in place; and last it is changed in place.
+//! Times 10,000,000 metering calls of the proved meter, an executable, against
+//! the same work with a plain meter, each in its own process. The proved meter
+//! is changed in place by a method that takes `&mut self`, and the compiler
+//! inlines it into the loop. So is the plain one; and once each of its calls is a
+//! call of its own, as from another library.
 //!
-//! `cargo bench --offline --bench by_value`
+//! `cargo bench --offline --bench program`
 
 #[path = "../tests/plain/mod.rs"]
 mod plain;
 
 use loonstool::Totals;
 use plain::Meter;
-use std::hint::black_box;
 use std::process::Command;
 use std::time::Instant;
 
 /// The executable, relative to the package folder.
 const PROVED: &str = "../target/bin/time_meter";
 
+/// The proved program and the plain meters.
+const SIDES: usize = 1 + PLAIN.len();
+
 const RUNS: usize = 7;
 const STREAMS: usize = 16;
 const CALLS: u64 = 10_000_000;
 
 /// The calls, on a meter with its analyses.
-type Work = fn(Meter) -> Meter;
+type Work = fn(&mut Meter);
 
 /// The plain meters: what each is, the argument on which this program does the
 /// work itself, and the work.
-const PLAIN: [(&str, &str, Work); 3] = [
-    ("plain, by value, a call", "--by-call", by_call),
-    ("plain, by value, inlined", "--by-value", by_value),
-    ("plain, in place", "--in-place", in_place),
+const PLAIN: [(&str, &str, Work); 2] = [
+    ("plain, inlined", "--inlined", inlined),
+    ("plain, a call", "--by-call", by_call),
 ];
 
 fn main() {
     let asked = std::env::args().nth(1).unwrap_or_default();
     match PLAIN.iter().find(|(_, argument, _)| *argument == asked) {
-        Some((_, _, work)) => print!("{}", readings(&work(analysed()))),
+        Some((_, _, work)) => {
+            let mut meter = analysed();
+            work(&mut meter);
+            print!("{}", readings(&meter));
+        }
         None => compare(),
     }
 }
@@ -62,38 +66,23 @@ fn analysed() -> Meter {
     meter
 }
 
-/// The stream and the volume of a call, which the compiler does not foresee.
-fn call(i: u64) -> (usize, u64) {
-    black_box((i as usize % STREAMS, i % 1_000))
+/// The streams and the volumes of the calls, by the loop of the proved program.
+fn calls() -> impl Iterator<Item = (usize, u64)> {
+    (0..CALLS).map(|i| ((i % STREAMS as u64) as usize, i % 1_000))
 }
 
-/// The calls on a meter in place.
-fn in_place(mut meter: Meter) -> Meter {
-    for (stream, volume) in (0..CALLS).map(call) {
-        let answer = meter.metering(stream, volume);
-        answer.expect("the volume is accepted");
+/// The calls, whose answers this program drops as the proved one does.
+fn inlined(meter: &mut Meter) {
+    for (stream, volume) in calls() {
+        let _ = meter.metering(stream, volume);
     }
-    meter
-}
-
-/// The calls on a meter by value and returned.
-fn by_value(mut meter: Meter) -> Meter {
-    for (stream, volume) in (0..CALLS).map(call) {
-        let changed = meter.metering_by_value(stream, volume);
-        changed.answer.expect("the volume is accepted");
-        meter = changed.meter;
-    }
-    meter
 }
 
 /// The same where each is a call of its own.
-fn by_call(mut meter: Meter) -> Meter {
-    for (stream, volume) in (0..CALLS).map(call) {
-        let changed = meter.metering_by_call(stream, volume);
-        changed.answer.expect("the volume is accepted");
-        meter = changed.meter;
+fn by_call(meter: &mut Meter) {
+    for (stream, volume) in calls() {
+        let _ = meter.metering_by_call(stream, volume);
     }
-    meter
 }
 
 /// A line for each stream with its number, its volume, of the superior and of
@@ -122,10 +111,10 @@ fn readings(meter: &Meter) -> String {
 /// Runs the sides in turn, each time another first, and prints their times.
 fn compare() {
     let this = std::env::current_exe().expect("the path of this program");
-    let mut seconds = [const { Vec::new() }; 4];
+    let mut seconds = [const { Vec::new() }; SIDES];
     let mut expected = None;
-    for turn in 0..4 * RUNS {
-        let side = (turn + turn / 4) % 4;
+    for turn in 0..SIDES * RUNS {
+        let side = (turn + turn / SIDES) % SIDES;
         let (taken, text) = match side {
             0 => timed(&mut Command::new(PROVED)),
             _ => timed(Command::new(&this).arg(PLAIN[side - 1].1)),
@@ -134,9 +123,8 @@ fn compare() {
         assert_eq!(expected.get_or_insert_with(|| text.clone()), &text);
     }
     println!("{CALLS} metering calls, {RUNS} runs of each side, same text printed");
-    println!("a plain meter has {} bytes", size_of::<Meter>());
     let [proved, plain @ ..] = seconds;
-    let proved = report("proved, in place", proved);
+    let proved = report("proved", proved);
     for ((name, ..), seconds) in PLAIN.into_iter().zip(plain) {
         let ratio = proved / report(name, seconds);
         println!("    ratio proved/plain {ratio:.3}");
@@ -157,7 +145,7 @@ fn report(name: &str, mut seconds: Vec<f64>) -> f64 {
     seconds.sort_unstable_by(f64::total_cmp);
     let median = seconds[seconds.len() / 2];
     println!(
-        "{name:<25} median {:.2} ms, {:.2} to {:.2} ms, {:.2} ns for a call",
+        "{name:<15} median {:.2} ms, {:.2} to {:.2} ms, {:.2} ns for a call",
         median * 1e3,
         seconds[0] * 1e3,
         seconds[seconds.len() - 1] * 1e3,
