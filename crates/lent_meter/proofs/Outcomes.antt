@@ -11,7 +11,7 @@ use Rattle.std.proofs.lemmas.List.{get_or-map, map-set}
 use Rattle.records.specs.Order.{Order, first_of, decided, mapped}
 use Rattle.records.specs.Answers.{Returns}
 use Rattle.records.proofs.OrderLaws.{refuses, mapped_decided}
-use Rattle.records.proofs.Returned.{refusal, acceptance}
+use Rattle.records.proofs.Returned.{refusal}
 use Rattle.meter.specs.declared.Stream.{Stream}
 use Rattle.meter.specs.declared.Meter.{Meter}
 use Rattle.meter.specs.State.{last_stream, Sound, fresh_stream, stream_at, with_stream}
@@ -23,9 +23,6 @@ use Rattle.lent_meter.specs.Lent.{LentRow, Lent, Leaves, LeavesRow}
 module _ {A B : Type 0} (f : A → B) (answer : A) (before : B) {n number : ℕ} {after : B} (is : number ≡ n) where
   pub number_refuses : (number ≡ 0 → ⊥) → after ≡ before → Returns (mapped f (decided n answer)) before number after
   number_refuses h e = refusal before (sym (mapped_decided f n answer ∙ refuses n (f answer) (λ z. h (is ∙ z)))) is e
-
-  pub number_accepts : number ≡ 0 → after ≡ f answer → Returns (mapped f (decided n answer)) before number after
-  number_accepts z e = acceptance before (sym (mapped_decided f n answer ∙ ap (λ (i : ℕ). decided i (f answer)) (sym is ∙ z))) z e
 
 module _ {words : List (List ℕ)} (m : Meter) (sound : Sound m) (holds : words ≡ packed m) (k : ℕ) where
   pub row_is : k ≤ last_stream → get_or words k [] ≡ packed_stream (stream_at m k)

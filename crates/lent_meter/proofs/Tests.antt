@@ -1,10 +1,10 @@
 -- The tests of a pair, of properties, of a gas, and of a register at a volume.
 use mathlib.Core.Path.{◌≡◌, refl, sym, ap, ◌∙◌}
-use mathlib.Core.Bool.{Bool, true, false, ◌&&◌, ◌||◌, and-false, true≢false}
-use Prim.Native.Nat.{ℕ, ◌+◌, ◌*◌, ◌/◌, ◌%◌, ◌^◌, ◌≤◌, ◌<◌}
+use mathlib.Core.Bool.{Bool, true, false, ◌&&◌, ◌||◌}
+use Prim.Native.Nat.{ℕ, ◌+◌, ◌*◌, ◌/◌, ◌%◌, ◌≤◌, ◌<◌}
 use native.Mathlib.Nat.{mul-le-mul_right, div-add-mod', mod-lt}
 use native.Mathlib.Omega.{arith}
-use borrow.Author.Tests.{eqb-true, eqb-false, eq-eqb, ne_eqb, ltb-true, ltb-false, leb-true, leb-false, le-leb}
+use borrow.Author.Tests.{eqb-true, eqb-false, eq-eqb, ltb-true, ltb-false, leb-true, leb-false, le-leb}
 use lib.Dec.{eqb, leb, ltb}
 use Rattle.records.specs.Conditions.{permitted}
 use Rattle.std.proofs.lemmas.Bool.{and_parts}
@@ -20,14 +20,6 @@ use Rattle.meter.specs.Calls.{booked}
 use Rattle.meter.proofs.Registers.{amount_booked}
 use Rattle.lent_meter.specs.Check.{Tells, RegisterUnit, between, within_ranges, at_most}
 use Rattle.lent_meter.proofs.Telling.{tells_true, tells_false, untold}
-
--- a number above 255 is in no permitted pair
-pub large_combustion : (c m : ℕ) → 255 < c → false ≡ permitted c m
-large_combustion c m h = rw (ne_eqb c 15 (λ e. omega arith), ne_eqb c 0 (λ e. omega arith), ne_eqb c 25 (λ e. omega arith), ne_eqb c 20 (λ e. omega arith))
-
-pub large_metering : (c m : ℕ) → 255 < m → false ≡ permitted c m
-large_metering c m h =
-    rw (ne_eqb m 15 (λ e. omega arith), ne_eqb m 0 (λ e. omega arith), ne_eqb m 20 (λ e. omega arith), and-false (eqb c 15), and-false (eqb c 0), and-false (eqb c 25), and-false (eqb c 20))
 
 -- the properties
 between_only : (a x b : ℕ) → between a x b ≡ true → (a ≤ x) × (x ≤ b)
