@@ -1,9 +1,9 @@
-//! Times 10,000,000 metering calls of the proved meter, an executable, against
-//! the same work with a plain meter, each in its own process. The proved meter
-//! is passed by value and returned, as document 01 has it, and has 1,408 bytes. So
-//! is and has the plain one, once with a call for each volume and once inlined,
-//! where the compiler finds that it can write in place; and last the plain meter
-//! is changed in place.
+//! Times 10,000,000 metering calls on the proved `Meter` of crates/meter, by the
+//! executable of crates/time_meter, against the same work with a plain meter, each
+//! in its own process. The proved meter is changed in place and has 1,408 bytes,
+//! and so has the plain one. That is passed by value and returned, the form that
+//! document 01 names, once with a call for each volume and once inlined, where the
+//! compiler finds that it can write in place; and last it is changed in place.
 //!
 //! `cargo bench --offline --bench by_value`
 
@@ -136,7 +136,7 @@ fn compare() {
     println!("{CALLS} metering calls, {RUNS} runs of each side, same text printed");
     println!("a plain meter has {} bytes", size_of::<Meter>());
     let [proved, plain @ ..] = seconds;
-    let proved = report("proved, by value", proved);
+    let proved = report("proved, in place", proved);
     for ((name, ..), seconds) in PLAIN.into_iter().zip(plain) {
         let ratio = proved / report(name, seconds);
         println!("    ratio proved/plain {ratio:.3}");

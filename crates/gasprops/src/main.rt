@@ -10,7 +10,8 @@ mod trouble;
 
 ghost use Rattle.std.specs.Prelude.{◌≤◌, IfOk, vec_len};
 
-use properties::{Answer, PerKilogram, PerKilogramAnswer, Properties};
+use properties::{PerKilogram, Properties};
+use records::Refusal;
 use std::alloc::Allocator;
 use std::env::{Env, FillError};
 use std::fmt::{Display, Formatter};
@@ -46,25 +47,14 @@ impl Display for TwoLines {
     }
 }
 
-fn properties_of(bytes: &[u8]) -> Result<SixLines, u8> {
-    match properties::properties_of(bytes) {
-        Answer::Accepted(p) => Ok(SixLines(p)),
-        Answer::Refused(number) => Err(number),
-    }
-}
-
-fn per_kilogram_of(bytes: &[u8]) -> Result<TwoLines, u8> {
-    match properties::per_kilogram_of(bytes) {
-        PerKilogramAnswer::Accepted(v) => Ok(TwoLines(v)),
-        PerKilogramAnswer::Refused(number) => Err(number),
-    }
-}
-
 // The lines of an answer, or the one line of a refusal.
-fn print_answer<T: Display + Drop>(rt: &impl Print, answer: Result<T, u8>) -> io::Result<()> {
+fn print_answer<T: Display + Drop>(
+    rt: &impl Print,
+    answer: Result<T, Refusal>,
+) -> io::Result<()> {
     match answer {
         Ok(lines) => print!(rt; "{lines}"),
-        Err(number) => println!(rt; "refused {number}"),
+        Err(refusal) => println!(rt; "{refusal}"),
     }
 }
 
@@ -96,13 +86,17 @@ fn asked_for(rt: &impl Env) -> Result<Asked, Trouble> {
 fn read_record<R: Read + Drop, A: Allocator>(reader: R, alloc: A) -> io::Result<Vec<u8, A>>
     ensures { IfOk result (λ bytes. vec_len bytes ≤ 284) }
 {
-    reader.bytes().take(284).try_collect(alloc)
+    let mut bytes = Vec::new(alloc);
+    reader.take(284).read_to_end(&mut bytes)?;
+    // No clause of `read_to_end` says what the reader's limit is: this shows the bound.
+    bytes.truncate(284);
+    Ok(bytes)
 }
 
 fn print_asked(rt: &impl Print, asked: Asked, bytes: &[u8]) -> io::Result<()> {
     match asked {
-        Asked::Properties => print_answer(rt, properties_of(bytes)),
-        Asked::PerKilogram => print_answer(rt, per_kilogram_of(bytes)),
+        Asked::Properties => print_answer(rt, properties::properties_of(bytes).map(SixLines)),
+        Asked::PerKilogram => print_answer(rt, properties::per_kilogram_of(bytes).map(TwoLines)),
     }
 }
 

@@ -118,7 +118,7 @@ pub record Demand3 (m₀ : Meter) (cs : List Call) (rs : List Answer) (m : Meter
   -- what the contracts require holds after the list; since the claim is for every list, it holds before each of its calls too
   pub required : Required m
 
--- demand 3: for every list of calls from a meter that `fresh` returned
+-- demand 3: for every list of calls from a meter that `Meter::new` returned
 abbrev pub Claim : Type 0
 Claim = (m₀ m : Meter) (cs : List Call) (rs : List Answer) → FreshReturns m₀ → (ran : Run m₀ cs rs m) → Demand3 m₀ cs rs m ran
 

@@ -4,11 +4,11 @@
 #![tactic(auto)]
 
 ghost use Rattle.std.specs.Prelude.{◌≡◌};
-ghost use Rattle.meter.specs.State.{Sound};
 ghost use Rattle.time_meter.specs.Calls.{temperature_of, methane_at, analysed_to, metered_to};
 
-use meter::{MeanAnswer, Meter, StreamTotals, TotalsAnswer};
+use meter::{Energy, Meter, StreamTotals};
 use properties::quantities::CalorificValue;
+use records::Refusal;
 use std::fmt::{Display, Formatter};
 use std::{fmt, io};
 
@@ -27,30 +27,21 @@ fn methane(t: u8) -> [u8; 13]
 }
 
 // An analysis on each stream.
-fn with_analyses(m: Meter) -> Meter
-    requires { Sound m }
-    ensures { (result ≡ analysed_to 16 m) × Sound result }
+fn analyse(meter: &mut Meter)
+    ensures { meter.new ≡ analysed_to 16 meter.old }
 {
-    let mut after = m;
     for stream in 0..16 {
-        let bytes = methane(temperature(stream));
-        let changed = meter::analysis(after, stream, &bytes);
-        after = changed.meter;
+        let _ = meter.analysis(stream, &methane(temperature(stream)));
     }
-    after
 }
 
 // The metering calls, from stream to stream.
-fn metered(m: Meter) -> Meter
-    requires { Sound m }
-    ensures { (result ≡ metered_to 10000000 m) × Sound result }
+fn take_volumes(meter: &mut Meter)
+    ensures { meter.new ≡ metered_to 10000000 meter.old }
 {
-    let mut after = m;
     for i in 0..10000000 {
-        let changed = meter::metering(after, (i % 16) as usize, i % 1000);
-        after = changed.meter;
+        let _ = meter.metering((i % 16) as usize, i % 1000);
     }
-    after
 }
 
 // What a stream has taken, and its means.
@@ -60,6 +51,17 @@ struct Line {
     totals: StreamTotals,
     mean: CalorificValue,
     mean_inferior: CalorificValue,
+}
+
+impl Line {
+    fn new(meter: &Meter, stream: usize) -> Result<Line, Refusal> {
+        Ok(Line {
+            stream,
+            totals: meter.totals(stream)?,
+            mean: meter.mean(stream, Energy::Superior)?,
+            mean_inferior: meter.mean(stream, Energy::Inferior)?,
+        })
+    }
 }
 
 impl Display for Line {
@@ -84,42 +86,18 @@ impl Display for Line {
     }
 }
 
-// The line of a stream; none where the meter refuses to tell.
-fn line_of(m: Meter, stream: usize) -> Option<Line>
-    requires { Sound m }
-{
-    let TotalsAnswer::Accepted(totals) = meter::totals(m, stream) else {
-        return None;
-    };
-    let MeanAnswer::Accepted(mean) = meter::mean(m, stream) else {
-        return None;
-    };
-    let MeanAnswer::Accepted(mean_inferior) = meter::mean_inferior(m, stream) else {
-        return None;
-    };
-    Some(Line {
-        stream,
-        totals,
-        mean,
-        mean_inferior,
-    })
-}
-
-fn print_lines(rt: &impl Print, m: Meter) -> io::Result<()>
-    requires { Sound m }
-{
-    for stream in 0..16 {
-        if let Some(line) = line_of(m, stream) {
-            println!(rt; "{line}")?;
-        }
+// A line for each stream of which the meter tells.
+fn print_lines(rt: &impl Print, meter: &Meter) -> io::Result<()> {
+    for line in (0..16).filter_map(|stream| Line::new(meter, stream).ok()) {
+        println!(rt; "{line}")?;
     }
     Ok(())
 }
 
 // It ends alike where a write fails.
 fn main(rt: HostRuntime) {
-    let m0 = meter::fresh();
-    let m1 = with_analyses(m0);
-    let m2 = metered(m1);
-    let _ = print_lines(&rt, m2);
+    let mut meter = Meter::new();
+    analyse(&mut meter);
+    take_volumes(&mut meter);
+    let _ = print_lines(&rt, &meter);
 }

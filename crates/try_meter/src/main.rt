@@ -11,43 +11,23 @@ mod call;
 mod printed;
 
 ghost use Rattle.std.specs.Prelude.{◌≡◌, ◌≤◌, IfOk, vec_len};
-ghost use Rattle.meter.specs.State.{Sound};
-ghost use Rattle.meter.specs.Calls.{after_analysis, after_metering};
 ghost use Rattle.try_meter.specs.Calls.{filled_by, after_call};
 
 use call::{Call, Calls, Kind};
-use meter::Meter;
+use meter::{Energy, Meter, StreamTotals};
 use printed::{Accepted, Answer, Mean, Totals};
+use properties::quantities::CalorificValue;
+use records::Refusal;
 use std::alloc::{AllocError, Allocator};
 use std::io;
 use std::io::{Input, Read};
 
-// An analysis, and a metering call.
-fn analysis(meter: &mut Meter, stream: usize, bytes: &[u8]) -> Answer<Accepted>
-    requires { Sound meter.old }
-    ensures { (meter.new ≡ after_analysis meter.old stream bytes.now) × Sound meter.new }
-{
-    let changed = meter::analysis(*meter, stream, bytes);
-    *meter = changed.meter;
-    Answer::from(changed.verdict)
-}
-
-fn metering(meter: &mut Meter, stream: usize, volume: u64) -> Answer<Accepted>
-    requires { Sound meter.old }
-    ensures { (meter.new ≡ after_metering meter.old stream volume) × Sound meter.new }
-{
-    let changed = meter::metering(*meter, stream, volume);
-    *meter = changed.meter;
-    Answer::from(changed.verdict)
-}
-
 // A stream takes 99,999 times 10,000,000 dm³.
 fn fill(meter: &mut Meter, stream: usize)
-    requires { Sound meter.old }
-    ensures { (meter.new ≡ filled_by 99999 meter.old stream) × Sound meter.new }
+    ensures { meter.new ≡ filled_by 99999 meter.old stream }
 {
     for i in 0..99999u64 {
-        metering(meter, stream, 10000000);
+        let _ = meter.metering(stream, 10000000);
     }
 }
 
@@ -55,36 +35,35 @@ fn fill(meter: &mut Meter, stream: usize)
 #[derive(Drop)]
 enum Given {
     Nothing,
-    Analysis(Answer<Accepted>),
-    Metering(Answer<Accepted>),
+    Analysis(Result<(), Refusal>),
+    Metering(Result<(), Refusal>),
     Reading {
-        totals: Answer<Totals>,
-        mean: Answer<Mean>,
-        inferior: Answer<Mean>,
+        totals: Result<StreamTotals, Refusal>,
+        mean: Result<CalorificValue, Refusal>,
+        inferior: Result<CalorificValue, Refusal>,
     },
 }
 
 // Makes a call of the input.
 fn make(meter: &mut Meter, call: &Call) -> Given
-    requires { Sound meter.old }
-    ensures { (meter.new ≡ after_call meter.old call.now.kind call.now.stream call.now.volume call.now.bytes.now) × Sound meter.new }
+    ensures { meter.new ≡ after_call meter.old call.now.kind call.now.stream call.now.volume call.now.bytes.now }
 {
     let stream = call.stream;
     match call.kind {
         Kind::Fresh => {
-            *meter = meter::fresh();
+            *meter = Meter::new();
             Given::Nothing
         }
-        Kind::Analysis => Given::Analysis(analysis(meter, stream, call.bytes)),
-        Kind::Metering => Given::Metering(metering(meter, stream, call.volume)),
+        Kind::Analysis => Given::Analysis(meter.analysis(stream, call.bytes)),
+        Kind::Metering => Given::Metering(meter.metering(stream, call.volume)),
         Kind::Filling => {
             fill(meter, stream);
             Given::Nothing
         }
         Kind::Reading => Given::Reading {
-            totals: Answer::from(meter::totals(*meter, stream)),
-            mean: Answer::from(meter::mean(*meter, stream)),
-            inferior: Answer::from(meter::mean_inferior(*meter, stream)),
+            totals: meter.totals(stream),
+            mean: meter.mean(stream, Energy::Superior),
+            inferior: meter.mean(stream, Energy::Inferior),
         },
     }
 }
@@ -96,24 +75,27 @@ fn print(rt: &impl Print, call: &Call, given: Given) -> io::Result<()> {
         Given::Analysis(answer) => {
             print!(rt; "analysis {stream}")?;
             rt.write_all(call.title)?;
-            println!(rt; ": {answer}")
+            println!(rt; ": {}", Answer(answer.map(|()| Accepted)))
         }
-        Given::Metering(answer) => println!(rt; "metering {stream} {}: {answer}", call.volume),
+        Given::Metering(answer) => {
+            let answer = Answer(answer.map(|()| Accepted));
+            println!(rt; "metering {stream} {}: {answer}", call.volume)
+        }
         Given::Reading {
             totals,
             mean,
             inferior,
         } => {
-            println!(rt; "totals {stream}: {totals}")?;
-            println!(rt; "mean {stream}: {mean}")?;
-            println!(rt; "mean inferior {stream}: {inferior}")
+            println!(rt; "totals {stream}: {}", Answer(totals.map(Totals)))?;
+            println!(rt; "mean {stream}: {}", Answer(mean.map(Mean)))?;
+            println!(rt; "mean inferior {stream}: {}", Answer(inferior.map(Mean)))
         }
     }
 }
 
 // Makes the calls of the input on a meter that begins fresh.
 fn run(rt: &impl Print, input: &[u8]) -> io::Result<()> {
-    let mut meter = meter::fresh();
+    let mut meter = Meter::new();
     for call in Calls(input) {
         let given = make(&mut meter, &call);
         print(rt, &call, given)?;

@@ -1,19 +1,19 @@
 // The answers of the meter, as they are printed.
-use meter::{MeanAnswer, Register, StreamTotals, TotalsAnswer};
+use meter::{Register, StreamTotals};
 use properties::quantities::CalorificValue;
-use records::Verdict;
+use records::Refusal;
 use std::fmt;
 use std::fmt::{Display, Formatter};
 
-// What a call gives where it is accepted, or the number of its refusal.
+// What a call gives where it is accepted, or its refusal.
 #[derive(Drop)]
-pub struct Answer<T>(Result<T, u8>);
+pub struct Answer<T>(pub Result<T, Refusal>);
 
 impl<T: Display> Display for Answer<T> {
     fn fmt<W: fmt::Write>(&self, f: &mut Formatter<W>) -> fmt::Result {
         match &self.0 {
             Ok(given) => write!(f, "{given}"),
-            Err(number) => write!(f, "refused {number}"),
+            Err(refusal) => write!(f, "{refusal}"),
         }
     }
 }
@@ -49,7 +49,7 @@ impl Display for Mass {
 }
 
 #[derive(Drop)]
-pub struct Totals(StreamTotals);
+pub struct Totals(pub StreamTotals);
 
 impl Display for Totals {
     fn fmt<W: fmt::Write>(&self, f: &mut Formatter<W>) -> fmt::Result {
@@ -65,37 +65,10 @@ impl Display for Totals {
 }
 
 #[derive(Drop)]
-pub struct Mean(CalorificValue);
+pub struct Mean(pub CalorificValue);
 
 impl Display for Mean {
     fn fmt<W: fmt::Write>(&self, f: &mut Formatter<W>) -> fmt::Result {
         write!(f, "{} J/m3", self.0.value())
-    }
-}
-
-impl From<Verdict> for Answer<Accepted> {
-    fn from(verdict: Verdict) -> Self {
-        match verdict {
-            Verdict::Accepted => Self(Ok(Accepted)),
-            Verdict::Refused(number) => Self(Err(number)),
-        }
-    }
-}
-
-impl From<TotalsAnswer> for Answer<Totals> {
-    fn from(answer: TotalsAnswer) -> Self {
-        match answer {
-            TotalsAnswer::Accepted(totals) => Self(Ok(Totals(totals))),
-            TotalsAnswer::Refused(number) => Self(Err(number)),
-        }
-    }
-}
-
-impl From<MeanAnswer> for Answer<Mean> {
-    fn from(answer: MeanAnswer) -> Self {
-        match answer {
-            MeanAnswer::Accepted(mean) => Self(Ok(Mean(mean))),
-            MeanAnswer::Refused(number) => Self(Err(number)),
-        }
     }
 }

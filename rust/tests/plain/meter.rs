@@ -127,7 +127,7 @@ impl Meter {
         Ok(())
     }
 
-    /// The same with the meter by value and returned, the form of the proved meter.
+    /// The same with the meter by value and returned, the form that document 01 names.
     pub fn metering_by_value(mut self, stream: usize, volume: u64) -> Changed {
         let answer = self.metering(stream, volume);
         Changed {

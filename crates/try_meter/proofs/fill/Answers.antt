@@ -5,8 +5,8 @@ use Rattle.try_meter.proofs.fill.Goals as goal
 
 pub loop-i-init : goal.loop-i-init
 unfolding filled_by
-loop-i-init c = (refl, c.requires)
+loop-i-init c = refl
 
 pub loop-i-preserved : goal.loop-i-preserved
 unfolding filled_by
-loop-i-preserved c = rw (add-one, ← c.loop-i.invariant.0) c.metering.ensures
+loop-i-preserved c = rw (add-one, ← c.loop-i.invariant) c.metering.ensures.stands
