@@ -1,4 +1,4 @@
-//! The meter by value: random lists of calls, to which the plain meter, the tally and the proved program `try_meter` answer alike.
+//! `Meter` of crates/meter: random lists of calls, to which the plain meter, the tally and the proved program `try_meter` answer alike.
 //! `tools/build try_meter` builds that program.
 
 mod calls;

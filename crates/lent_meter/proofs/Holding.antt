@@ -9,7 +9,7 @@ use borrow.Author.Tests.{eqb-true, eqb-false}
 use lib.Dec.{eqb}
 use lib.ListN.{length, get_or, drop, replicate, drop_of_length-le}
 use lib.Seq.{drop-cons}
-use Rattle.records.proofs.OrderLaws.{both}
+use Rattle.std.proofs.lemmas.Bool.{and_parts}
 use Rattle.std.specs.Prelude.{Option, Some, None}
 use Rattle.meter.specs.declared.Gas.{Gas}
 use Rattle.meter.specs.declared.StreamTotals.{StreamTotals}
@@ -74,8 +74,8 @@ module _ (row : List ℕ) where
   row_holds long some {gas} {totals} g t =
       record {
         only = λ y.
-            let z = both _ _ y in
-            let f = both _ _ z.0 in
+            let z = and_parts _ _ y in
+            let f = and_parts _ _ z.0 in
             analysed_holds long (eqb-true _ _ f.0) (record { gas = g.only f.1; totals = t.only z.1 });
         always = λ l. go l (eqb (get_or row 0 0) 1) refl;
       }

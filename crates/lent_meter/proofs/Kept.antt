@@ -3,6 +3,7 @@ use mathlib.Core.Path.{◌≡◌, refl, sym, ap, subst, ◌∙◌}
 use mathlib.Core.List.{List, [], ◌∷◌, map}
 use Prim.Native.Nat.{ℕ, zero, suc}
 use lib.ListN.{get_or}
+use Rattle.std.proofs.lemmas.List.{map-set}
 use Rattle.records.specs.Order.{Outcome, refused, accepted, decided, otherwise, mapped}
 use Rattle.records.specs.Answers.{number_of}
 use Rattle.std.specs.Prelude.{Option, Some, None}
@@ -16,7 +17,7 @@ use Rattle.meter.proofs.Kept.{fresh_is_sound, sound_after_analysis, sound_after_
 use Rattle.lent_meter.specs.Words.{packed_totals, analysis_words, packed_stream, packed, gas_in, totals_in}
 use Rattle.lent_meter.specs.Lent.{Lent, OnWords, Leaves}
 use Rattle.lent_meter.specs.Kept.{FreshIsLent, AnalysisKeepsLent, MeteringKeepsLent, PackedIsInjective}
-use Rattle.lent_meter.proofs.Outcomes.{with_row, left_alone, leaves_others}
+use Rattle.lent_meter.proofs.Outcomes.{left_alone, leaves_others}
 
 pub fresh_is_lent : FreshIsLent
 fresh_is_lent = record { meter = fresh_meter; sound = fresh_is_sound; holds = refl }
@@ -44,7 +45,7 @@ metering_keeps_lent k v n before after = keeps (λ (m : Meter). metering_of m k 
 -- what a call with the number n, which replaces one stream where it is 0, leaves of words that hold a meter
 pub leaves_packed : (n : ℕ) (m : Meter) (k : ℕ) (s : Stream) →
     Leaves k (packed m) (number_of (mapped packed (decided n (with_stream m k s)))) (packed (otherwise m (decided n (with_stream m k s))))
-leaves_packed zero m k s = subst (Leaves k (packed m) 0) (with_row m.streams k s) (leaves_others k (packed m) (λ h. elim (h refl) [ ]))
+leaves_packed zero m k s = subst (Leaves k (packed m) 0) (sym (map-set packed_stream m.streams k s)) (leaves_others k (packed m) (λ h. elim (h refl) [ ]))
 leaves_packed (suc n) m k s = left_alone k (packed m) (suc n)
 
 -- the stream of a row

@@ -3,5 +3,4 @@ mod Rows
 mod Telling
 mod Tests
 mod Holding
-mod Means
 pub mod Kept

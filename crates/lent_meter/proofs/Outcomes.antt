@@ -1,17 +1,17 @@
 -- What a call on lent words gives, from the number that its code found and what it wrote; and what a row's call gives, said of all the
 -- words.
 use mathlib.Core.Path.{◌≡◌, refl, sym, ap, subst, ◌∙◌}
-use mathlib.Core.List.{List, [], ◌∷◌, map}
-use Prim.Native.Nat.{ℕ, zero, suc, ◌≤◌, ◌<◌}
-use native.Mathlib.Nat.{not-suc-le-zero, le_of_suc-le-suc}
+use mathlib.Core.List.{List, [], ◌∷◌}
+use Prim.Native.Nat.{ℕ, zero, suc, ◌≤◌}
 use native.Mathlib.Omega.{arith}
 use lib.Dec.{ltb}
-use lib.ListN.{length, get_or, set}
+use lib.ListN.{get_or, set}
 use lib.Seq.{set-get_or, get_or-set_other}
+use Rattle.std.proofs.lemmas.List.{get_or-map, map-set}
 use Rattle.records.specs.Order.{Order, first_of, decided, mapped}
 use Rattle.records.specs.Answers.{Returns}
 use Rattle.records.proofs.OrderLaws.{refuses, mapped_decided}
-use Rattle.records.proofs.Returned.{refusal, acceptance}
+use Rattle.records.proofs.Returned.{refusal}
 use Rattle.meter.specs.declared.Stream.{Stream}
 use Rattle.meter.specs.declared.Meter.{Meter}
 use Rattle.meter.specs.State.{last_stream, Sound, fresh_stream, stream_at, with_stream}
@@ -24,30 +24,16 @@ module _ {A B : Type 0} (f : A → B) (answer : A) (before : B) {n number : ℕ}
   pub number_refuses : (number ≡ 0 → ⊥) → after ≡ before → Returns (mapped f (decided n answer)) before number after
   number_refuses h e = refusal before (sym (mapped_decided f n answer ∙ refuses n (f answer) (λ z. h (is ∙ z)))) is e
 
-  pub number_accepts : number ≡ 0 → after ≡ f answer → Returns (mapped f (decided n answer)) before number after
-  number_accepts z e = acceptance before (sym (mapped_decided f n answer ∙ ap (λ (i : ℕ). decided i (f answer)) (sym is ∙ z))) z e
-
--- the row of a stream, and the words with another row
-row_at : (l : List Stream) (k : ℕ) → k < length l → get_or (map packed_stream l) k [] ≡ packed_stream (get_or l k fresh_stream)
-row_at [] k h = absurd (not-suc-le-zero h)
-row_at (x ∷ l) zero h = refl
-row_at (x ∷ l) (suc k) h = row_at l k (le_of_suc-le-suc h)
-
-pub with_row : (l : List Stream) (k : ℕ) (s : Stream) → set (map packed_stream l) k (packed_stream s) ≡ map packed_stream (set l k s)
-with_row [] k s = refl
-with_row (x ∷ l) zero s = refl
-with_row (x ∷ l) (suc k) s = ap (λ (r : List (List ℕ)). packed_stream x ∷ r) (with_row l k s)
-
 module _ {words : List (List ℕ)} (m : Meter) (sound : Sound m) (holds : words ≡ packed m) (k : ℕ) where
   pub row_is : k ≤ last_stream → get_or words k [] ≡ packed_stream (stream_at m k)
-  row_is low = ap (λ (w : List (List ℕ)). get_or w k []) holds ∙ row_at m.streams k (omega (arith, sound.count))
+  row_is low = ap (λ (w : List (List ℕ)). get_or w k []) holds ∙ get_or-map packed_stream m.streams k fresh_stream [] (omega (arith, sound.count))
 
   with_number : (new : Stream) (n : ℕ) {number : ℕ} {row : List ℕ} → Returns (mapped packed_stream (decided n new)) (get_or words k []) number row →
       Returns (mapped packed (decided n (with_stream m k new))) words number (set words k row)
   with_number new zero r =
       record {
         number_is = r.number_is;
-        after_is = ap (set words k) r.after_is ∙ ap (λ (w : List (List ℕ)). set w k (packed_stream new)) holds ∙ with_row m.streams k new;
+        after_is = ap (set words k) r.after_is ∙ ap (λ (w : List (List ℕ)). set w k (packed_stream new)) holds ∙ sym (map-set packed_stream m.streams k new);
       }
   with_number new (suc n) r = record { number_is = r.number_is; after_is = ap (set words k) r.after_is ∙ set-get_or words k [] }
 

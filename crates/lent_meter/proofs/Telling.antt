@@ -1,10 +1,6 @@
 -- What a test tells.
-use mathlib.Core.Path.{◌≡◌, refl, sym, subst, ◌∙◌}
+use mathlib.Core.Path.{◌≡◌, refl, sym, ◌∙◌}
 use mathlib.Core.Bool.{Bool, true, false, true≢false}
-use Prim.Native.Nat.{ℕ, ◌+◌, ◌<◌}
-use native.Mathlib.Omega.{arith}
-use borrow.Author.Tests.{eqb-true, eqb-false}
-use lib.Dec.{eqb}
 use Rattle.lent_meter.specs.Check.{Tells}
 
 -- what is told by true, and by false
@@ -16,11 +12,3 @@ tells_false h = record { only = λ e. elim (true≢false (sym e)) [ ]; always = 
 
 pub untold : {P : Type 0} {b : Bool} → Tells b P → b ≡ false → P → ⊥
 untold t e p = true≢false (sym (t.always p) ∙ e)
-
--- from each below i, and the one at i
-pub one_more : {P : ℕ → Type 0} (i : ℕ) → ((j : ℕ) → j < i → P j) → P i → (j : ℕ) → j < i + 1 → P j
-one_more {P} i before at j h = go (eqb j i) refl
-  where
-    go : (b : Bool) → eqb j i ≡ b → P j
-    go true e = subst P (sym (eqb-true j i e)) at
-    go false e = before j (omega (arith, eqb-false j i e, h))

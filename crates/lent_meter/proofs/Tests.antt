@@ -1,13 +1,13 @@
 -- The tests of a pair, of properties, of a gas, and of a register at a volume.
 use mathlib.Core.Path.{◌≡◌, refl, sym, ap, ◌∙◌}
-use mathlib.Core.Bool.{Bool, true, false, ◌&&◌, ◌||◌, and-false, true≢false}
-use Prim.Native.Nat.{ℕ, ◌+◌, ◌*◌, ◌/◌, ◌%◌, ◌^◌, ◌≤◌, ◌<◌}
+use mathlib.Core.Bool.{Bool, true, false, ◌&&◌, ◌||◌}
+use Prim.Native.Nat.{ℕ, ◌+◌, ◌*◌, ◌/◌, ◌%◌, ◌≤◌, ◌<◌}
 use native.Mathlib.Nat.{mul-le-mul_right, div-add-mod', mod-lt}
 use native.Mathlib.Omega.{arith}
-use borrow.Author.Tests.{eqb-true, eqb-false, eq-eqb, ne_eqb, ltb-true, ltb-false, leb-true, leb-false, le-leb}
+use borrow.Author.Tests.{eqb-true, eqb-false, eq-eqb, ltb-true, ltb-false, leb-true, leb-false, le-leb}
 use lib.Dec.{eqb, leb, ltb}
 use Rattle.records.specs.Conditions.{permitted}
-use Rattle.records.proofs.OrderLaws.{both}
+use Rattle.std.proofs.lemmas.Bool.{and_parts}
 use Rattle.properties.specs.Chain.{Six, wobbe, root_of}
 use Rattle.properties.specs.Bounds.{Floored, Proper, air_distance, by_air, DensityByAir}
 use Rattle.properties.specs.Quantities.{Bounded}
@@ -21,20 +21,9 @@ use Rattle.meter.proofs.Registers.{amount_booked}
 use Rattle.lent_meter.specs.Check.{Tells, RegisterUnit, between, within_ranges, at_most}
 use Rattle.lent_meter.proofs.Telling.{tells_true, tells_false, untold}
 
--- a number above 255 is in no permitted pair
-pub large_combustion : (c m : ℕ) → 255 < c → false ≡ permitted c m
-large_combustion c m h = rw (ne_eqb c 15 (λ e. omega arith), ne_eqb c 0 (λ e. omega arith), ne_eqb c 25 (λ e. omega arith), ne_eqb c 20 (λ e. omega arith))
-
-pub large_metering : (c m : ℕ) → 255 < m → false ≡ permitted c m
-large_metering c m h =
-    rw (ne_eqb m 15 (λ e. omega arith), ne_eqb m 0 (λ e. omega arith), ne_eqb m 20 (λ e. omega arith), and-false (eqb c 15), and-false (eqb c 0), and-false (eqb c 25), and-false (eqb c 20))
-
-pub metering_small : (c m : ℕ) → permitted c m ≡ true → m < 2 ^ 8
-metering_small c m h = let small : 255 < m → ⊥ = λ l. true≢false (sym h ∙ sym (large_metering c m l)) in omega arith
-
 -- the properties
 between_only : (a x b : ℕ) → between a x b ≡ true → (a ≤ x) × (x ≤ b)
-between_only a x b e = let z = both _ _ e in (leb-true a x z.0, leb-true x b z.1)
+between_only a x b e = let z = and_parts _ _ e in (leb-true a x z.0, leb-true x b z.1)
 
 between_always : (a x b : ℕ) → a ≤ x → x ≤ b → between a x b ≡ true
 between_always a x b low high = rw (le-leb a x low, le-leb x b high)
@@ -43,11 +32,11 @@ pub ranges_hold : (p : Six) → Tells (within_ranges p) (Floored p × Bounded p)
 ranges_hold p =
     record {
       only = λ y.
-          let w = both _ _ y in
-          let d = both _ _ w.0 in
-          let r = both _ _ d.0 in
-          let i = both _ _ r.0 in
-          let s = both _ _ i.0 in
+          let w = and_parts _ _ y in
+          let d = and_parts _ _ w.0 in
+          let r = and_parts _ _ d.0 in
+          let i = and_parts _ _ r.0 in
+          let s = and_parts _ _ i.0 in
           let Z = between_only _ p.Z _ s.0 in
           let Hs = between_only _ p.Hs _ s.1 in
           let Hi = between_only _ p.Hi _ i.1 in
@@ -68,7 +57,7 @@ pub properties_hold : (p : Six) → within_ranges p ≡ true → Tells (leb p.Hi
 properties_hold p within =
     let r = (ranges_hold p).only within in
     record {
-      only = λ y. let z = both _ _ y in record { floored = r.0; bounded = r.1; order = leb-true _ _ z.0; index = eqb-true _ _ z.1 };
+      only = λ y. let z = and_parts _ _ y in record { floored = r.0; bounded = r.1; order = leb-true _ _ z.0; index = eqb-true _ _ z.1 };
       always = λ q. rw (le-leb _ _ q.order, eq-eqb _ _ q.index);
     }
 
@@ -78,7 +67,7 @@ density_holds m p =
     let v = by_air m p.d in
     record {
       only = λ e.
-          let z = both (leb p.rho (v + air_distance)) (leb v (p.rho + air_distance)) e in
+          let z = and_parts (leb p.rho (v + air_distance)) (leb v (p.rho + air_distance)) e in
           let low = leb-true p.rho (v + air_distance) z.0 in
           let high = leb-true v (p.rho + air_distance) z.1 in
           record { proper = (omega arith, omega arith); below = omega arith; above = omega arith };
@@ -163,7 +152,7 @@ register_holds u floor ceiling v e least most some low high = go (ltb e.rest u) 
         let below = amount_at_most u least e (bound_rest u v floor some least low) rest in
         let above = amount_at_most u e most rest (bound_rest u v ceiling some most high) in
         record {
-          only = λ y. let z = both _ _ y in record { rest = rest; least = omega (arith, below.only z.0, l); most = omega (arith, above.only z.1, m) };
+          only = λ y. let z = and_parts (at_most least e) (at_most e most) y in record { rest = rest; least = omega (arith, below.only z.0, l); most = omega (arith, above.only z.1, m) };
           always = λ s. rw (below.always (omega (arith, s.least, l)), above.always (omega (arith, s.most, m)));
         }
     go false h = tells_false (λ s. omega (arith, ltb-false e.rest u h, s.rest))

@@ -39,7 +39,11 @@ fn pair_in(row: &Row) -> Option<Pair>
         combustion,
         metering,
     };
-    if pair.is_permitted() { Some(pair) } else { None }
+    if pair.is_permitted() {
+        Some(pair)
+    } else {
+        None
+    }
 }
 
 // Whether a value lies between two others, both included.

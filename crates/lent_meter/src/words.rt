@@ -5,7 +5,6 @@ ghost use Rattle.properties.specs.Quantities.{Bounded};
 ghost use Rattle.lent_meter.specs.Words.{totals_in, six_in, with_gas_words, with_totals_words};
 ghost use Rattle.lent_meter.specs.Check.{words_differ};
 
-use super::totals_words;
 use meter::{Gas, Register, StreamTotals};
 use properties::Properties;
 use properties::quantities::{
@@ -48,6 +47,7 @@ const MASS: usize = 14;
 
 const MASS_REST: usize = 15;
 
+// An array as C lends it. A `From` of it could stand only in the crate of the type that it is read as or written from.
 pub type Row = [u64; WORDS];
 
 // The totals in a row.
@@ -71,11 +71,17 @@ pub fn totals_in(row: &Row) -> StreamTotals
     }
 }
 
-// The row with other totals.
+// The row with other totals, word by word: an array of them to copy takes more stack than include/loonstool.h says of a metering call.
 pub fn put_totals(row: &mut Row, totals: StreamTotals)
     ensures { row.new ≡ with_totals_words row.old totals }
 {
-    row[VOLUME..].copy_from_slice(&totals_words(totals));
+    row[VOLUME] = totals.volume;
+    row[SUPERIOR] = totals.superior.whole;
+    row[SUPERIOR_REST] = totals.superior.rest;
+    row[INFERIOR] = totals.inferior.whole;
+    row[INFERIOR_REST] = totals.inferior.rest;
+    row[MASS] = totals.mass.whole;
+    row[MASS_REST] = totals.mass.rest;
 }
 
 // The properties in a row.

@@ -87,7 +87,7 @@ pub fn loonstool_meter_totals(meter: &Words, stream: usize, totals: &mut [u64; 7
     )
 }
 
-// The mean superior calorific value of what a stream has taken, in J/m³.
+// The mean superior calorific value of what a stream has taken, in J/m³. C has a function for each energy.
 pub fn loonstool_meter_mean(meter: &Words, stream: usize, mean: &mut u64) -> u8
     requires { Lent meter.now }
     ensures { OnReading (λ (h : ℕ). h) (λ (m : Meter). mean_of m stream) meter.now mean.old result mean.new }
@@ -109,7 +109,7 @@ pub fn loonstool_meter_mean_inferior(meter: &Words, stream: usize, mean: &mut u6
     )
 }
 
-// The numbers of the properties, in document 01's order.
+// The numbers of the properties, in document 01's order, as C's struct has them. A `From` could stand only in crates/properties.
 fn in_order(p: Properties) -> [u64; 6]
     ensures { result ≡ in_order (numbers p) }
 {
@@ -148,6 +148,7 @@ pub fn loonstool_per_kilogram(bytes: &[u8], values: &mut [u64; 2]) -> u8
 }
 
 // Reads a record: the pair of temperatures in °C, the number of entries, and their line numbers and fractions, with 0 past them.
+// C lends a place for each.
 pub fn loonstool_read(
     bytes: &[u8],
     combustion: &mut u8,

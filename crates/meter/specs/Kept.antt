@@ -1,5 +1,5 @@
--- What is shown of every meter. `Sound`, the one thing that a contract asks of a meter, holds of a meter as made, and every call that
--- may change the meter keeps it.
+-- What is shown of every meter. `Sound` holds of a meter as made, and every call that may change the meter keeps it. What it says of a
+-- stream is the invariant of the stream's type, so no contract of a call on a meter asks for it.
 use Rattle.std.specs.Prelude.{◌≡◌, false, List, ℕ, ◌*◌, ◌^◌, ◌≤◌, ◌<◌}
 use Rattle.records.specs.Refusals.{Verdict}
 use Rattle.records.specs.Order.{Outcome, accepted, first_of}

@@ -13,7 +13,7 @@ module _ {A : Type 0} where
   meaning v value = outcome (λ _. value) v
 
   -- A verdict and a value give an outcome: they mean it, and beside a refusal stands another value, which is named: the bytes
-  -- that a lent buffer had before, an analysis of 0 everywhere, or a meter as it was.
+  -- that a lent buffer had before, or a meter as it was.
   pub record Gives (outcome : Outcome A) (other : A) (verdict : Verdict) (value : A) : Type 0 where
     pub means : meaning verdict value ≡ outcome
     pub stands : value ≡ otherwise other outcome

@@ -1,16 +1,16 @@
 -- Of each number that an order has, the refusal with it: so there is an answer with each outcome that an order decides.
-use mathlib.Core.Path.{◌≡◌, refl, sym, ap, ◌∙◌}
-use mathlib.Core.Bool.{Bool, true, false, ◌&&◌, cond, false≢true}
+use mathlib.Core.Path.{◌≡◌, refl, ap, ◌∙◌}
+use mathlib.Core.Bool.{Bool, true, false, ◌&&◌, false≢true}
 use mathlib.Core.List.{List, [], ◌∷◌}
 use Prim.Native.Nat.{ℕ, zero, suc, ◌+◌, ◌≤◌, ◌<◌}
 use native.Mathlib.Omega.{arith}
 use borrow.Author.Tests.{eqb-true, ltb-true}
-use lib.Dec.{T, eqb, ltb}
+use lib.Dec.{eqb, ltb}
 use lib.ListN.{length, get_or}
 use Rattle.std.specs.Prelude.{Result, Ok, Err}
 use Rattle.records.specs.declared.refusal.Refusal.{Refusal}
 use Rattle.records.specs.declared.refusal.Refusal.TheVariants.{TooShort, MarkDiffers, VersionDiffers, PairNotPermitted, CountOutside, LengthDiffers, LineOutOfOrder, FractionZero, SumOutside, MethaneLow, AboveLimit, WaterHigh, StreamAbove, PairDiffers, VolumeAbove, NoAnalysis, TotalPasses, TotalZero, ListsDiffer, RoomShort}
-use Rattle.records.specs.Order.{Order, Outcome, first_of, refused, accepted, decided, otherwise}
+use Rattle.records.specs.Order.{Order, first_of, refused, accepted, decided, otherwise}
 use Rattle.records.specs.Refusals.{Verdict, number, outcome}
 use Rattle.records.specs.Answers.{meaning, Gives}
 use Rattle.records.proofs.OrderLaws.{both}

@@ -8,7 +8,7 @@ use Rattle.records.specs.Answers.{number_of, Returns}
 use Rattle.meter.specs.declared.Meter.{Meter}
 use Rattle.meter.specs.State.{Sound, fresh_meter, stream_at, with_stream}
 use Rattle.meter.specs.Conditions.{analysis_order, metering_order, totals_order, mean_order}
-use Rattle.meter.specs.Calls.{analysed, metered, analysis_of, metering_of, totals_of, mean_in}
+use Rattle.meter.specs.Calls.{analysed, metered, analysis_of, metering_of, mean_in}
 use Rattle.meter.proofs.Kept.{fresh_is_sound, sound_after_analysis, sound_after_metering}
 use Rattle.lent_meter.specs.Words.{packed_totals, packed}
 use Rattle.lent_meter.specs.Lent.{Lent}
@@ -17,7 +17,7 @@ use Rattle.tally.specs.Tally.{Call, Given, done, mean_is, Answer}
 use Rattle.tally.specs.Run.{change_answer, totals_given, Step, by_analysis, by_metering, by_totals, by_mean, Run, ended, after}
 use Rattle.tally.specs.LentRun as lent
 use Rattle.tally.specs.LentRun.{Words, totals_put, LentStep, LentRun, LentRequired, CheckDecides, LentClaim}
-use Rattle.tally.proofs.Energies.{register_of, mean_for, mean_returned, lent_mean_asked, lent_mean_found}
+use Rattle.tally.proofs.Energies.{register_of, mean_returned, lent_mean_asked, lent_mean_found}
 use Rattle.tally.proofs.Answers.{known, answered_by}
 use Rattle.tally.proofs.Demand.{demand3}
 use Rattle.tally.proofs.Exists.{to, to_mut, totals_with, totals_means, mean_with, mean_means, verdict_by, call_gives}

@@ -1,5 +1,5 @@
--- What the functions of crates/meter did on a list of calls: each step is what the contract of the function promises of the value that
--- it returned. `Asked` is what the contract requires and `Learnt` what it ensures, both as the checker reads them from the code.
+-- What the functions of crates/meter did on a list of calls: each step is what the contract of the function promises of the call. `Asked`
+-- is what the contract requires and `Learnt` what it ensures, both as the checker reads them from the code.
 use Rattle.std.specs.Prelude.{List, [], ◌∷◌, ◌++◌, ℕ, Result}
 use contract.Lifetimes.{Lfts}
 use Rattle.std.specs.Borrow.{Bor, MutBor}
