@@ -103,8 +103,9 @@ pub fn properties_in(row: &Row) -> Properties
 pub fn pair_differs(row: &Row, pair: Pair) -> bool
     ensures { result ≡ words_differ row.now pair.combustion pair.metering }
 {
-    let words = (row[COMBUSTION], row[METERING]);
-    (row[ANALYSED] != 0) & (words != (u64::from(pair.combustion), u64::from(pair.metering)))
+    let differs = (row[COMBUSTION] != u64::from(pair.combustion))
+        | (row[METERING] != u64::from(pair.metering));
+    (row[ANALYSED] != 0) & differs
 }
 
 // The row with a gas in force, its totals as they were.
