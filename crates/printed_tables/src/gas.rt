@@ -195,6 +195,7 @@ fn sums() -> Sums
     ensures summation { result.summation ≡ S gas }
 {
     let mut sums = Sums::default();
+    // A record's entries are read from its bytes, these from two lists: what both loops share is `Sums::add`.
     for (line, fraction) in LINES.iter().zip(&FRACTIONS) {
         sums.add(*line, *fraction, Combustion::At15, Metering::At15);
     }
@@ -210,6 +211,7 @@ pub fn gas_totals() -> Totals
     let mut x = 0;
     let mut mass = 0;
     let mut volume = 0;
+    // The parts are functions of i: three folds over the range are no plainer.
     for i in 0..8 {
         x += fraction(i);
         mass += mass_part(i, m);

@@ -30,6 +30,7 @@ fn methane(t: u8) -> [u8; 13]
 fn analyse(meter: &mut Meter)
     ensures { meter.new ≡ analysed_to 16 meter.old }
 {
+    // A loop around one call that takes the stream: a fold with a closure is no plainer.
     for stream in 0..16 {
         let _ = meter.analysis(stream, &methane(temperature(stream)));
     }
@@ -39,6 +40,7 @@ fn analyse(meter: &mut Meter)
 fn take_volumes(meter: &mut Meter)
     ensures { meter.new ≡ metered_to 10000000 meter.old }
 {
+    // The same: the call takes i.
     for i in 0..10000000 {
         let _ = meter.metering((i % 16) as usize, i % 1000);
     }

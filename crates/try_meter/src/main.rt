@@ -26,6 +26,7 @@ use std::io::{Input, Read};
 fn fill(meter: &mut Meter, stream: usize)
     ensures { meter.new ≡ filled_by 99999 meter.old stream }
 {
+    // A loop around one call: a fold with a closure is no plainer. The invariant names i.
     for i in 0..99999u64 {
         let _ = meter.metering(stream, 10000000);
     }
