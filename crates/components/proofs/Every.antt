@@ -6,16 +6,9 @@ use mathlib.Core.Logic.{⊎_elim}
 use Prim.Native.Nat.{ℕ, zero, suc, ◌<◌}
 use native.Mathlib.Nat.{le_of_suc-le-suc, not-suc-le-zero, eq-or-lt_of_le}
 use lib.Dec.{T}
+use lib.Ieee.Fits.{and_l, and_r}
 use lib.ListN.{get_or}
 use Rattle.components.specs.Tests.{all}
-
-and_left : (a b : Bool) → T (a && b) → T a
-and_left true b t = tt
-and_left false b t = t
-
-and_right : (a b : Bool) → T (a && b) → T b
-and_right true b t = t
-and_right false b t = absurd t
 
 -- a test with an exception passes where the exception does not hold
 pub unless : (a b : Bool) → a ≡ false → T (a || b) → T b
@@ -31,8 +24,8 @@ pub at : (f : ℕ → Bool) (n : ℕ) → T (every f n) → (k : ℕ) → k < n 
 at f zero t k h = absurd (not-suc-le-zero h)
 at f (suc n) t k h =
     ⊎_elim
-    (λ e. subst (λ (m : ℕ). T (f m)) (sym e) (and_left (f n) (every f n) t))
-    (λ l. at f n (and_right (f n) (every f n) t) k l)
+    (λ e. subst (λ (m : ℕ). T (f m)) (sym e) (and_l (f n) (every f n) t))
+    (λ l. at f n (and_r (f n) (every f n) t) k l)
     (eq-or-lt_of_le (le_of_suc-le-suc h))
 
 -- the same for each pair of numbers
@@ -42,5 +35,5 @@ at₂ f m n t l c hl hc = at (f l) n (at (λ (l : ℕ). every (f l) n) m t l hl)
 -- a test that passes at each element of a list passes at every index, where it passes at what stands past the end
 pub all_at : {A : Type 0} (f : A → Bool) (xs : List A) (d : A) → T (all f xs) → T (f d) → (k : ℕ) → T (f (get_or xs k d))
 all_at f [] d t e k = e
-all_at f (x ∷ xs) d t e zero = and_left (f x) (all f xs) t
-all_at f (x ∷ xs) d t e (suc k) = all_at f xs d (and_right (f x) (all f xs) t) e k
+all_at f (x ∷ xs) d t e zero = and_l (f x) (all f xs) t
+all_at f (x ∷ xs) d t e (suc k) = all_at f xs d (and_r (f x) (all f xs) t) e k

@@ -3,21 +3,14 @@ use Prim.Native.Nat.{◌<◌}
 use native.Mathlib.Omega.{arith}
 use Rattle.components.specs.declared.temperatures.Combustion.{Combustion}
 use Rattle.components.specs.declared.temperatures.Combustion.TheVariants as combustion
-use Rattle.components.specs.declared.temperatures.Metering.{Metering}
-use Rattle.components.specs.declared.temperatures.Metering.TheVariants as metering
 use Rattle.components.specs.Table.{superior, inferior, Heat}
-use Rattle.components.specs.Temperatures.{heat_place, summation_place}
+use Rattle.components.specs.Temperatures.{heat_place}
 
 pub heat_place_below : (t : Combustion) → heat_place t < 4
 heat_place_below combustion.At25 = omega arith
 heat_place_below combustion.At20 = omega arith
 heat_place_below combustion.At15 = omega arith
 heat_place_below combustion.At0 = omega arith
-
-pub summation_place_below : (t : Metering) → summation_place t < 3
-summation_place_below metering.At0 = omega arith
-summation_place_below metering.At15 = omega arith
-summation_place_below metering.At20 = omega arith
 
 pub superior_is_heat : (t : Combustion) → Heat (superior (heat_place t))
 superior_is_heat t = (omega arith, omega (arith, heat_place_below t))

@@ -1,6 +1,6 @@
 -- The shape, the rule, and the signs and zeros of the table: each part is computed once over all lines, and carried to each line.
 use mathlib.Core.Path.{◌≡◌, refl}
-use mathlib.Core.Bool.{Bool, true, false, not, ◌||◌}
+use mathlib.Core.Bool.{Bool, true, false, not, beq, ◌||◌}
 use mathlib.Core.List.{List, []}
 use Prim.Native.Nat.{ℕ, zero, suc, ◌-◌, ◌<◌}
 use native.Mathlib.Omega.{arith}
@@ -9,22 +9,12 @@ use lib.IntN.{ℤ, pos, negsuc, nat_abs}
 use lib.ListN.{get_or, length}
 use lib.Signed.{non_neg}
 use borrow.Author.Tests.{le-ltb}
+use lib.Ieee.Bits.{is_true}
+use Rattle.std.specs.Cmp.{booleans_Decides}
 use Rattle.components.specs.Table.{component_table, entry_of, summation}
 use Rattle.components.specs.Rule.{hydrogen_atoms, allowance, excess, Shape, Rule, Columns}
 use Rattle.components.proofs.Every.{at, at₂, unless}
 use Rattle.components.proofs.Entries.{summation_below}
-
--- two tests agree
-agree : Bool → Bool → Bool
-agree true b = b
-agree false b = not b
-
-agree→eq : (a b : Bool) → T (agree a b) → a ≡ b
-unfolding agree
-agree→eq true true t = refl
-agree→eq true false t = absurd t
-agree→eq false true t = absurd t
-agree→eq false false t = refl
 
 is_zero : ℤ → Bool
 is_zero (pos zero) = true
@@ -45,7 +35,7 @@ hydrogen : ℕ → ℕ → Bool
 hydrogen l t = ltb l 1 || leb (nat_abs (excess l t)) (allowance l)
 
 sign : ℕ → ℕ → Bool
-sign l k = ltb l 1 || agree (non_neg (entry_of l (summation k))) (not (eqb l 41))
+sign l k = ltb l 1 || beq (non_neg (entry_of l (summation k))) (not (eqb l 41))
 
 no_heat : ℕ → ℕ → Bool
 no_heat l c = ltb l 49 || (ltb c 4 || is_zero (entry_of l c))
@@ -55,7 +45,7 @@ unfolding hydrogen component_table hydrogen_atoms allowance
 hydrogen_at l t hl ht = at₂ hydrogen 56 4 tt l t hl ht
 
 sign_at : (l k : ℕ) → l < 56 → k < 3 → T (sign l k)
-unfolding sign agree component_table
+unfolding sign component_table
 sign_at l k hl hk = at₂ sign 56 3 tt l k hl hk
 
 no_heat_at : (l c : ℕ) → l < 56 → c < 12 → T (no_heat l c)
@@ -83,7 +73,7 @@ pub columns : Columns
 unfolding sign no_heat
 columns =
     record {
-      sign = λ l k lo hi h. agree→eq _ _ (unless (ltb l 1) _ (le-ltb l 1 lo) (sign_at l k (omega arith) h));
+      sign = λ l k lo hi h. (booleans_Decides _ _).0 (is_true _ (unless (ltb l 1) _ (le-ltb l 1 lo) (sign_at l k (omega arith) h)));
       no_heat = λ l c lo hi h.
           is_zero→eq _ (unless (ltb c 4) _ (le-ltb c 4 h.0) (unless (ltb l 49) _ (le-ltb l 49 lo) (no_heat_at l c (omega arith) h.1)));
     }

@@ -6,18 +6,13 @@ use Rattle.records.specs.Order.{first_of, refused, accepted, decided, mapped}
 use Rattle.records.specs.Format.{Contents, contents_in}
 use Rattle.records.specs.Conditions.{record_order}
 use Rattle.records.specs.Calls.{reading_of}
-use Rattle.records.proofs.OrderLaws.{mapped_decided, refuses, decided_accepted, decided_refused}
+use Rattle.records.proofs.OrderLaws.{mapped_decided, decided_accepted, decided_refused}
 use Rattle.records.proofs.FirstBytes as records
 use Rattle.properties.specs.Chain.{six_of, FirstBytesDecideProperties}
 use Rattle.properties.specs.PerKilogram.{mass_basis_of, FirstBytesDecidePerKilogram}
 
 -- f is what the call makes of the contents
 module _ {A : Type 0} (f : Contents → A) (bs : List ℕ) where
-  pub refused_reading : {n : ℕ} → n ≡ first_of (record_order bs) → (n ≡ 0 → ⊥) → refused n ≡ mapped f (reading_of bs)
-  refused_reading e h =
-      ap refused e
-      ∙ sym (mapped_decided f (first_of (record_order bs)) (contents_in bs) ∙ refuses (first_of (record_order bs)) (f (contents_in bs)) (λ z. h (e ∙ z)))
-
   pub accepted_reading : first_of (record_order bs) ≡ 0 → accepted (f (contents_in bs)) ≡ mapped f (reading_of bs)
   accepted_reading e = sym (ap (λ (n : ℕ). mapped f (decided n (contents_in bs))) e)
 

@@ -1,10 +1,11 @@
 -- Bounds of the numbers of each step, from bounds of the numbers that it takes.
 use mathlib.Core.Path.{◌≡◌, refl}
-use mathlib.Core.Bool.{Bool, true, false, cond}
+use mathlib.Core.Bool.{Bool, true, false}
 use Prim.Native.Nat.{ℕ, ◌*◌, ◌-◌, ◌^◌, ◌≤◌, ◌<◌}
 use native.Mathlib.Nat.{mul-le-mul, mul-le-mul_left}
 use native.Mathlib.Omega.{arith}
 use lib.Dec.{eqb}
+use Rattle.std.proofs.lemmas.Bool.{cond_both}
 use lib.IntN.{ℤ, nat_abs}
 use Rattle.rounding.specs.Near.{near}
 use Rattle.rounding.specs.Root.{Root}
@@ -19,12 +20,7 @@ use Rattle.properties.specs.PerKilogram.{per_kilogram}
 
 -- what holds of three numbers holds of the one chosen
 pub chosen : (P : ℕ → Type 0) {x y z : ℕ} → P x → P y → P z → (m : ℕ) → P (for_metering x y z m)
-chosen P {x} {y} {z} hx hy hz m = go (eqb m 0) (eqb m 15)
-  where
-    go : (a b : Bool) → P (cond a x (cond b y z))
-    go true b = hx
-    go false true = hy
-    go false false = hz
+chosen P {x} {y} {z} hx hy hz m = cond_both (eqb m 0) x _ P (λ e. hx) (λ e. cond_both (eqb m 15) y z P (λ f. hy) (λ f. hz))
 
 temperature_low : (m : ℕ) → 27315 ≤ temperature m
 temperature_low = chosen (λ (n : ℕ). 27315 ≤ n) (omega arith) (omega arith) (omega arith)
@@ -61,13 +57,9 @@ pub metering_place_lem : (m : ℕ) → metering_place m < 3
 metering_place_lem = chosen (λ (n : ℕ). n < 3) (omega arith) (omega arith) (omega arith)
 
 pub combustion_place_lem : (c : ℕ) → combustion_place c < 4
-combustion_place_lem c = go (eqb c 25) (eqb c 20) (eqb c 15)
-  where
-    go : (x y z : Bool) → cond x 0 (cond y 1 (cond z 2 3)) < 4
-    go true y z = omega arith
-    go false true z = omega arith
-    go false false true = omega arith
-    go false false false = omega arith
+combustion_place_lem c =
+    let P : ℕ → Type 0 = λ n. n < 4 in
+    cond_both (eqb c 25) 0 _ P (λ e. omega arith) (λ e. cond_both (eqb c 20) 1 _ P (λ f. omega arith) (λ f. cond_both (eqb c 15) 2 3 P (λ g. omega arith) (λ g. omega arith)))
 
 -- ideal values
 module _ (Hm D : ℕ) where

@@ -27,7 +27,7 @@ ascends before (l ∷ ls) h =
 
 in_table : (before : ℕ) (ls : List ℕ) → Ascending before ls → (k : ℕ) → k < length ls → (1 ≤ get_or ls k 0) × (get_or ls k 0 ≤ 55)
 unfolding Ascending
-in_table before [] a k h = let f : ⊥ = omega arith in elim f [ ]
+in_table before [] a k h = absurd (omega arith)
 in_table before (l ∷ ls) a zero h = (omega (arith, a.0), a.1)
 in_table before (l ∷ ls) a (suc k) h = in_table l ls a.2 k (omega arith)
 

@@ -2,13 +2,12 @@
 use mathlib.Core.Path.{◌≡◌, refl, sym, ap, ◌∙◌}
 use mathlib.Core.List.{List, [], ◌∷◌, ◌++◌}
 use Prim.Native.Nat.{ℕ, zero, suc, ◌+◌, ◌*◌, ◌≤◌, ◌<◌}
-use native.Mathlib.Nat.{zero-add, add_assoc}
+use native.Mathlib.Nat.{add_assoc}
 use native.Mathlib.Numerals.{add-one}
 use native.Mathlib.Omega.{arith}
-use lib.ListN.{length, get_or, take, drop, set, replicate}
-use lib.Seq.{paste-suc, get_or-drop, take-length, length-take-le}
+use lib.ListN.{length, get_or, take, drop, replicate}
+use lib.Seq.{get_or-drop, length-take-le}
 use Rattle.records.specs.Format.{entries_at, record_length, number4, count_in, entries_in, lines_of, fractions_of, lines_in, fractions_in, entry_bytes, entries_bytes, placed}
-use Rattle.records.specs.Answers.{padded}
 use Rattle.records.specs.Counted.{count_lines}
 use Rattle.records.proofs.Placing.{placed_none, placed_after}
 
@@ -18,13 +17,13 @@ number_drop m bs at = simp (get_or-drop, add_assoc)
 -- the entry k of n
 line_at : (n : ℕ) (es : List ℕ) (k : ℕ) → k < n → get_or (lines_of n es) k 0 ≡ get_or es (5 * k) 0
 unfolding lines_of
-line_at zero es k h = let f : ⊥ = omega arith in elim f [ ]
+line_at zero es k h = absurd (omega arith)
 line_at (suc n) es zero h = refl
 line_at (suc n) es (suc k) h = line_at n (drop 5 es) k (omega arith) ∙ get_or-drop 5 es (5 * k) 0 ∙ ap (λ (i : ℕ). get_or es i 0) (omega arith)
 
 fraction_at_lem : (n : ℕ) (es : List ℕ) (k : ℕ) → k < n → get_or (fractions_of n es) k 0 ≡ number4 es (5 * k + 1)
 unfolding fractions_of
-fraction_at_lem zero es k h = let f : ⊥ = omega arith in elim f [ ]
+fraction_at_lem zero es k h = absurd (omega arith)
 fraction_at_lem (suc n) es zero h = refl
 fraction_at_lem (suc n) es (suc k) h = fraction_at_lem n (drop 5 es) k (omega arith) ∙ number_drop 5 es (5 * k + 1) ∙ ap (λ (i : ℕ). number4 es i) (omega arith)
 
@@ -50,17 +49,10 @@ within bs k f h l = let e = count_lines bs in record { counted = omega (arith, e
 abbrev pub filled : List ℕ → ℕ → List ℕ
 filled s k = take k s ++ drop k (replicate 55 0)
 
--- the next number is filled in
-pub fill : (s array : List ℕ) (k v : ℕ) → k < length s → k < 55 → array ≡ filled s k → v ≡ get_or s k 0 → set array k v ≡ filled s (k + 1)
-fill s array k v hs hd e f = rw (e, f, add-one) (simp zero-add at (paste-suc (replicate 55 0) 0 s k 0 (rw zero-add hd) hs))
-
-pub full : (s : List ℕ) (k : ℕ) → length s ≡ k → filled s k ≡ padded s
-full s k e = rw (← e, take-length)
-
 pub length_entries : (ls xs : List ℕ) → length ls ≡ length xs → length (entries_bytes ls xs) ≡ 5 * length ls
 unfolding entries_bytes
 length_entries [] xs e = refl
-length_entries (l ∷ ls) [] e = let f : ⊥ = omega arith in elim f [ ]
+length_entries (l ∷ ls) [] e = absurd (omega arith)
 length_entries (l ∷ ls) (x ∷ xs) e = let h = length_entries ls xs (omega arith) in omega arith
 
 entries_more : (ls xs : List ℕ) (k : ℕ) → k < length ls → k < length xs
@@ -69,8 +61,8 @@ unfolding entries_bytes
 entries_more ls xs k hl hx = rw add-one (go ls xs k hl hx) where
   go : (ls xs : List ℕ) (k : ℕ) → k < length ls → k < length xs
       → entries_bytes (take (suc k) ls) (take (suc k) xs) ≡ entries_bytes (take k ls) (take k xs) ++ entry_bytes (get_or ls k 0) (get_or xs k 0)
-  go [] xs k hl hx = let f : ⊥ = omega arith in elim f [ ]
-  go (l ∷ ls) [] k hl hx = let f : ⊥ = omega arith in elim f [ ]
+  go [] xs k hl hx = absurd (omega arith)
+  go (l ∷ ls) [] k hl hx = absurd (omega arith)
   go (l ∷ ls) (x ∷ xs) zero hl hx = refl
   go (l ∷ ls) (x ∷ xs) (suc k) hl hx = ap (λ (t : List ℕ). entry_bytes l x ++ t) (go ls xs k (omega arith) (omega arith))
 

@@ -3,14 +3,13 @@ use mathlib.Core.Path.{◌≡◌, refl, sym, ap, subst, ◌∙◌}
 use mathlib.Core.Bool.{Bool, true, false, not}
 use mathlib.Core.List.{List}
 use Prim.Native.Nat.{ℕ, ◌≤◌, ◌<◌}
-use native.Mathlib.Nat.{lt_of_not-le}
-use native.Mathlib.Decide.{dec_le}
+use mathlib.Core.Logic.{⊎_elim}
 use native.Mathlib.Omega.{arith}
 use borrow.Author.Tests.{le-ltb, ltb-false, ne_eqb}
 use lib.Dec.{eqb}
 use lib.ListN.{length, get_or, take}
 use lib.Seq.{take_all, get_or-take, length-take-le}
-use Rattle.std.proofs.lemmas.Bool.{or_parts}
+use Rattle.std.proofs.lemmas.Bool.{cases_lt, or_parts}
 use Rattle.records.specs.Order.{first_of, refused, decided}
 use Rattle.records.specs.Format.{record_length, combustion_in, metering_in, count_in, lines_in, fractions_in, contents_in}
 use Rattle.records.specs.Conditions.{mark_differs, version_differs, pair_refused, count_outside, length_differs, fields_order, head_order, content_order}
@@ -90,8 +89,4 @@ module _ (bs : List ℕ) (h : enough ≤ length bs) where
   cut_short = refused_long (take enough bs) (omega (arith, cut)) ∙ ap refused same_number ∙ sym (refused_long bs h)
 
 pub first_bytes_decide : FirstBytesDecideReading
-first_bytes_decide bs = either (dec_le enough (length bs))
-  where
-    either : Dec (enough ≤ length bs) → reading_of (take enough bs) ≡ reading_of bs
-    either (yes h) = cut_short bs h
-    either (no f) = ap reading_of (take_all enough bs (omega (arith, lt_of_not-le f)))
+first_bytes_decide bs = ⊎_elim (λ l. ap reading_of (take_all enough bs (omega arith))) (cut_short bs) (cases_lt (length bs) enough)

@@ -1,10 +1,11 @@
 -- Laws of orders of refusals: which part of an order decides, what is known where no condition holds, and what a call then gives.
 use mathlib.Core.Path.{◌≡◌, refl, sym, ap, ◌∙◌}
-use mathlib.Core.Bool.{Bool, true, false, ◌&&◌, cond}
+use mathlib.Core.Bool.{Bool, true, false, cond}
 use mathlib.Core.List.{[], ◌∷◌, ◌++◌}
 use Prim.Native.Nat.{ℕ, zero, suc}
 use native.Mathlib.Omega.{arith}
 use lib.Dec.{T, eqb}
+use Rattle.std.proofs.lemmas.Bool.{cond_both}
 use Rattle.std.specs.Prelude.{Result, Ok, Err}
 use Rattle.std.specs.Result.{IsErrAnd}
 use Rattle.records.specs.declared.refusal.Refusal.{Refusal}
@@ -20,21 +21,21 @@ numbered ((suc n, holds) ∷ rest) = numbered rest
 
 -- where a condition of the first part holds, the first part decides
 pub stops : (a b : Order) {r : ℕ} → r ≡ first_of a → (r ≡ 0 → ⊥) → r ≡ first_of (a ++ b)
-stops [] b e h = elim (h e) [ ]
+stops [] b e h = absurd (h e)
 stops ((n, true) ∷ rest) b e h = e
 stops ((n, false) ∷ rest) b e h = stops rest b e h
 
 -- where none does, the second part decides
 pub passes : (a b : Order) {r s : ℕ} → T (numbered a) → r ≡ first_of a → r ≡ 0 → s ≡ first_of b → s ≡ first_of (a ++ b)
 passes [] b t e z h = h
-passes ((zero, holds) ∷ rest) b t e z h = elim t [ ]
-passes ((suc n, true) ∷ rest) b t e z h = let f : ⊥ = omega arith in elim f [ ]
+passes ((zero, holds) ∷ rest) b t e z h = absurd t
+passes ((suc n, true) ∷ rest) b t e z h = absurd (omega arith)
 passes ((suc n, false) ∷ rest) b t e z h = passes rest b t e z h
 
 -- where no condition of an order holds, none of either part does
 pub clear_first : (a b : Order) → T (numbered a) → first_of (a ++ b) ≡ 0 → first_of a ≡ 0
 clear_first [] b t h = refl
-clear_first ((zero, holds) ∷ rest) b t h = elim t [ ]
+clear_first ((zero, holds) ∷ rest) b t h = absurd t
 clear_first ((suc n, true) ∷ rest) b t h = h
 clear_first ((suc n, false) ∷ rest) b t h = clear_first rest b t h
 
@@ -46,20 +47,12 @@ abbrev pub condition_of : ℕ → Order → Bool
 condition_of n [] = false
 condition_of n ((m, holds) ∷ rest) = cond (eqb m n) holds (condition_of n rest)
 
-one_of : (b holds : Bool) → holds ≡ false → cond b false holds ≡ false
-one_of true holds h = refl
-one_of false holds h = h
-
 -- where no condition of an order holds, that of each number does not
 pub unmet : (o : Order) → T (numbered o) → first_of o ≡ 0 → (n : ℕ) → condition_of n o ≡ false
 unmet [] t h n = refl
-unmet ((zero, holds) ∷ rest) t h n = elim t [ ]
-unmet ((suc m, true) ∷ rest) t h n = let f : ⊥ = omega arith in elim f [ ]
-unmet ((suc m, false) ∷ rest) t h n = one_of (eqb (suc m) n) (condition_of n rest) (unmet rest t h n)
-
-pub both : (a b : Bool) → (a && b) ≡ true → (a ≡ true) × (b ≡ true)
-both true b h = (refl, h)
-both false b h = (h, cc)
+unmet ((zero, holds) ∷ rest) t h n = absurd t
+unmet ((suc m, true) ∷ rest) t h n = absurd (omega arith)
+unmet ((suc m, false) ∷ rest) t h n = cond_both (eqb (suc m) n) false (condition_of n rest) (λ (b : Bool). b ≡ false) (λ e. refl) (λ e. unmet rest t h n)
 
 -- no refusal has the number 0
 pub some_number : (e : Refusal) → number e ≡ 0 → ⊥
@@ -72,12 +65,12 @@ number_passed (Err y) e h = ap number h
 
 module _ {A : Type 0} where
   pub refuses : (n : ℕ) (answer : A) → (n ≡ 0 → ⊥) → decided n answer ≡ refused n
-  refuses zero answer h = elim (h refl) [ ]
+  refuses zero answer h = absurd (h refl)
   refuses (suc n) answer h = refl
 
   -- beside a refusal
   pub beside : (n : ℕ) (answer other : A) → (n ≡ 0 → ⊥) → other ≡ otherwise other (decided n answer)
-  beside zero answer other h = elim (h refl) [ ]
+  beside zero answer other h = absurd (h refl)
   beside (suc n) answer other h = refl
 
   -- a refusal, and what stood before it
@@ -90,10 +83,10 @@ module _ {A : Type 0} where
   -- what an outcome says of the number
   pub decided_accepted : (n : ℕ) (answer value : A) → decided n answer ≡ accepted value → (n ≡ 0) × (answer ≡ value)
   decided_accepted zero answer value e = (refl, cc)
-  decided_accepted (suc n) answer value e = let z : ◌≡◌ {A = ℕ} 0 1 = cc in let f : ⊥ = omega arith in elim f [ ]
+  decided_accepted (suc n) answer value e = let z : ◌≡◌ {A = ℕ} 0 1 = cc in absurd (omega arith)
 
   pub decided_refused : (n : ℕ) (answer : A) (number : ℕ) → decided n answer ≡ refused number → (number ≡ n) × (number ≡ 0 → ⊥)
-  decided_refused zero answer number e = let z : ◌≡◌ {A = ℕ} 0 1 = cc in let f : ⊥ = omega arith in elim f [ ]
+  decided_refused zero answer number e = let z : ◌≡◌ {A = ℕ} 0 1 = cc in absurd (omega arith)
   decided_refused (suc n) answer number e = let z : suc n ≡ number = cc in (sym z, λ h. omega arith)
 
 pub mapped_decided : {A B : Type 0} (f : A → B) (n : ℕ) (answer : A) → mapped f (decided n answer) ≡ decided n (f answer)

@@ -50,7 +50,7 @@ entry_again es b h =
 entries_again : (n : ℕ) (es : List ℕ) → Bytes es → length es ≡ 5 * n → entries_bytes (lines_of n es) (fractions_of n es) ≡ es
 unfolding lines_of fractions_of entries_bytes
 entries_again zero [] b e = refl
-entries_again zero (x ∷ es) b e = let f : ⊥ = omega arith in elim f [ ]
+entries_again zero (x ∷ es) b e = absurd (omega arith)
 entries_again (suc n) es b e =
     ap (λ (t : List ℕ). t ++ entries_bytes (lines_of n (drop 5 es)) (fractions_of n (drop 5 es))) (entry_again es b (omega arith))
     ∙ ap (λ (t : List ℕ). take 5 es ++ t) (entries_again n (drop 5 es) (λ i. rw get_or-drop (b (5 + i))) (simp length-drop (omega arith)))
@@ -128,14 +128,14 @@ answer_holds_contents bs k e =
 lines_again : (ls xs : List ℕ) → length ls ≡ length xs → lines_of (length ls) (entries_bytes ls xs) ≡ ls
 unfolding lines_of entries_bytes
 lines_again [] xs e = refl
-lines_again (l ∷ ls) [] e = let f : ⊥ = omega arith in elim f [ ]
+lines_again (l ∷ ls) [] e = absurd (omega arith)
 lines_again (l ∷ ls) (x ∷ xs) e = ap (λ (t : List ℕ). l ∷ t) (lines_again ls xs (omega arith))
 
 fractions_again : (ls xs : List ℕ) → length ls ≡ length xs → total xs < 2 ^ 32 → fractions_of (length ls) (entries_bytes ls xs) ≡ xs
 unfolding fractions_of entries_bytes total
 fractions_again [] [] e h = refl
-fractions_again [] (x ∷ xs) e h = let f : ⊥ = omega arith in elim f [ ]
-fractions_again (l ∷ ls) [] e h = let f : ⊥ = omega arith in elim f [ ]
+fractions_again [] (x ∷ xs) e h = absurd (omega arith)
+fractions_again (l ∷ ls) [] e h = absurd (omega arith)
 fractions_again (l ∷ ls) (x ∷ xs) e h =
     let four : number4 (entry_bytes l x) 1 ≡ x = omega (arith, from_le_bytes-to_le_bytes_4 x (omega arith)) in
     rw (four, fractions_again ls xs (omega arith) (omega arith))

@@ -62,7 +62,7 @@ pub record Noted (ls xs : List ℕ) (sum of_methane : ℕ) (above : Bool) (of_wa
 found_step : (line l x before noted rest whole : ℕ) (is : Bool) → (T is → l ≡ line) → before < l
     → ((line ≤ before) × (whole ≡ noted)) ⊎ ((noted ≡ 0) × (whole ≡ cond is x rest))
     → ((line ≤ l) × (whole ≡ cond is x noted)) ⊎ ((cond is x noted ≡ 0) × (whole ≡ rest))
-found_step line l x before noted rest whole true is h (inl (p, e)) = let f : ⊥ = omega (arith, is tt) in elim f [ ]
+found_step line l x before noted rest whole true is h (inl (p, e)) = absurd (omega (arith, is tt))
 found_step line l x before noted rest whole true is h (inr (z, e)) = inl (omega (arith, is tt), e)
 found_step line l x before noted rest whole false is h (inl (p, e)) = inl (omega arith, e)
 found_step line l x before noted rest whole false is h (inr (z, e)) = inr (z, e)

@@ -2,9 +2,9 @@
 use mathlib.Core.Path.{◌≡◌}
 use Prim.Native.Nat.{ℕ, ◌+◌, ◌*◌, ◌-◌, ◌^◌, ◌≤◌, ◌<◌}
 use native.Mathlib.Omega.{arith}
-use native.Mathlib.Nat.{mul-le-mul, mul-le-mul_right, le_of_mul-le-mul_right, lt_of_not-le}
-use native.Mathlib.Decide.{dec_le}
-use borrow.Author.Tests.{lt-ltb, le-ltb}
+use native.Mathlib.Nat.{mul-le-mul, mul-le-mul_right, le_of_mul-le-mul_right}
+use mathlib.Core.Logic.{⊎_elim}
+use Rattle.std.proofs.lemmas.Bool.{cases_lt, lt-ltb, le-ltb}
 use Rattle.rounding.specs.Root.{Root, root}
 use Rattle.root_rounds.specs.Search.{next_candidate, natural_root, hydrogen_root, hydrogen_below, natural_below, first_candidate}
 use Rattle.rounding.proofs.RootLaws.{below_of_squares, root_greatest}
@@ -102,23 +102,11 @@ module _ (n : ℕ) (is : Root (root n) n) where
 
   -- all of them
   pub first_starts : n < 2 ^ 64 → Starts n (first_candidate n)
-  first_starts small = either (dec_le hydrogen_below n) (dec_le natural_below n)
-    where
-      either : Dec (hydrogen_below ≤ n) → Dec (natural_below ≤ n) → Starts n (first_candidate n)
-      either (no g) d = low_starts (lt_of_not-le g)
-      either (yes l) (no g) = middle_starts l (lt_of_not-le g)
-      either (yes l) (yes h) = high_starts h small
+  first_starts small =
+      ⊎_elim low_starts (λ l. ⊎_elim (middle_starts l) (λ h. high_starts h small) (cases_lt n natural_below)) (cases_lt n hydrogen_below)
 
   pub first_distant : hydrogen_below ≤ n → n < 2 ^ 64 → Close 208 100 n (first_candidate n)
-  first_distant l small = either (dec_le natural_below n)
-    where
-      either : Dec (natural_below ≤ n) → Close 208 100 n (first_candidate n)
-      either (no g) = middle_distant l (lt_of_not-le g)
-      either (yes h) = high_distant h small
+  first_distant l small = ⊎_elim (middle_distant l) (λ h. high_distant h small) (cases_lt n natural_below)
 
   pub first_close : 62 * 10 ^ 15 ≤ n → n ≤ 39 * 10 ^ 17 → Close 11419 10000 n (first_candidate n)
-  first_close l u = either (dec_le hydrogen_below n)
-    where
-      either : Dec (hydrogen_below ≤ n) → Close 11419 10000 n (first_candidate n)
-      either (no g) = low_close (lt_of_not-le g) l
-      either (yes h) = middle_close h (omega arith) u
+  first_close l u = ⊎_elim (λ g. low_close g l) (λ h. middle_close h (omega arith) u) (cases_lt n hydrogen_below)

@@ -2,13 +2,11 @@
 use mathlib.Core.Path.{◌≡◌}
 use Prim.Native.Nat.{ℕ, ◌+◌, ◌*◌, ◌-◌, ◌/◌, ◌^◌, ◌≤◌, ◌<◌}
 use native.Mathlib.Omega.{arith}
-use native.Mathlib.Nat.{mul-le-mul, mul-le-mul_left, mul-le-mul_right, le_of_mul-le-mul_right, mul-pos, lt_of_not-le, div-mul-le_self, div-lt_iff_lt-mul}
-use native.Mathlib.Decide.{dec_le}
+use native.Mathlib.Nat.{mul-le-mul, mul-le-mul_left, mul-le-mul_right, le_of_mul-le-mul_right, mul-pos, div-mul-le_self, div-lt_iff_lt-mul}
+use mathlib.Core.Logic.{⊎_elim}
+use Rattle.std.proofs.lemmas.Bool.{cases_lt}
 use Rattle.root_rounds.specs.Search.{next_candidate}
 use Rattle.rounding.proofs.RootLaws.{below_of_squares}
-
-pub square_fits : (c : ℕ) → c < 2 ^ 32 → c * c < 2 ^ 64
-square_fits c h = omega (arith, mul-le-mul h h)
 
 -- where the square of c is above n, the candidate after c is below c
 module _ (n c : ℕ) (h : n < c * c) where
@@ -17,9 +15,6 @@ module _ (n c : ℕ) (h : n < c * c) where
 
   quotient_below : n / c < c
   quotient_below = (div-lt_iff_lt-mul {k = c} positive).1 h
-
-  pub sum_below : c + n / c < 2 * c
-  sum_below = omega (arith, quotient_below)
 
   pub falls : next_candidate n c < c
   unfolding next_candidate
@@ -64,27 +59,20 @@ module _ (n c : ℕ) (h : n < c * c) where
   squares d y e f = gap n d y (rw (e, f) (doubled (next_candidate n c) c n d (mean_times n c) e))
 
   pub closer : (p q p' q' : ℕ) → 0 < q → p * p * q' ≤ 4 * (q * (p + q)) * p' → Close p q n c → Close p' q' n m
-  closer p q p' q' hq k a = either (dec_le (m * m) n)
+  closer p q p' q' hq k a =
+      ⊎_elim (λ l. record { ratio = above (c * c - n) (m * m - n) (omega arith) (omega arith) }) (λ l. record { ratio = omega (arith, mul-le-mul_right q' l) }) (cases_lt n (m * m))
     where
       above : (d y : ℕ) → n + d ≡ c * c → n + y ≡ m * m → m * m * q' ≤ n * (q' + p')
       above d y e f =
           let b : d * q ≤ n * p = omega (arith, rw (← e) at a.ratio) in
           rw (← f) (omega (arith, shrinks n d y p q p' q' hq (omega arith) (squares d y e f) b k))
 
-      either : Dec (m * m ≤ n) → Close p' q' n m
-      either (yes l) = record { ratio = omega (arith, mul-le-mul_right q' l) }
-      either (no f) = let l = lt_of_not-le f in record { ratio = above (c * c - n) (m * m - n) (omega arith) (omega arith) }
-
   -- and the root, once the square of c is at most 10^-11 of n above it
   pub root_next : n < 2 ^ 64 → Close 1 100000000000 n c → m * m ≤ n
-  root_next small a = either (dec_le (m * m) n)
+  root_next small a = ⊎_elim (λ l. above (c * c - n) (m * m - n) (omega arith) (omega arith) (omega arith)) (λ l. l) (cases_lt n (m * m))
     where
       above : (d y : ℕ) → n + d ≡ c * c → n + y ≡ m * m → 0 < y → m * m ≤ n
       above d y e f py =
           let b : d * 100000000000 ≤ n = omega (arith, rw (← e) at a.ratio) in
           let s : d ≤ 184467441 = omega arith in
           absurd (omega (arith, squares d y e f, mul-le-mul_left (n + d) py, mul-le-mul_left d s))
-
-      either : Dec (m * m ≤ n) → m * m ≤ n
-      either (yes l) = l
-      either (no f) = let l = lt_of_not-le f in above (c * c - n) (m * m - n) (omega arith) (omega arith) (omega arith)

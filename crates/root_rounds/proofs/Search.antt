@@ -3,9 +3,9 @@ use mathlib.Core.Path.{◌≡◌, refl, ◌∙◌}
 use mathlib.Core.List.{[], ◌∷◌}
 use Prim.Native.Nat.{ℕ, zero, suc, ◌+◌, ◌*◌, ◌^◌, ◌≤◌, ◌<◌}
 use native.Mathlib.Omega.{arith}
-use native.Mathlib.Nat.{lt_of_not-le, pow-suc}
-use native.Mathlib.Decide.{dec_le}
-use borrow.Author.Tests.{le-leb, lt-leb}
+use mathlib.Core.Logic.{◌⊎◌, inl, inr, ⊎_elim}
+use native.Mathlib.Nat.{pow-suc}
+use Rattle.std.proofs.lemmas.Bool.{cases_lt, le-leb, lt-leb}
 use lib.ListN.{length}
 use lib.Seq.{take_at}
 use Rattle.std.specs.Prelude.{None, Some}
@@ -28,18 +28,15 @@ module _ (n c : ℕ) where
   is_next h = rw (lt-leb (c * c) n h)
 
   pub told_last : round_of n c ≡ None → c * c ≤ n
-  told_last e = either (dec_le (c * c) n)
-    where
-      either : Dec (c * c ≤ n) → c * c ≤ n
-      either (yes h) = h
-      either (no g) = let e : Some (next_candidate n c) ≡ None = is_next (lt_of_not-le g) ∙ e in let z : ◌≡◌ {A = ℕ} 0 1 = cc in absurd (omega arith)
+  told_last e =
+      ⊎_elim (λ g. let f : Some (next_candidate n c) ≡ None = is_next g ∙ e in let z : ◌≡◌ {A = ℕ} 0 1 = cc in absurd (omega arith)) (λ h. h) (cases_lt n (c * c))
 
   pub told_next : (d : ℕ) → round_of n c ≡ Some d → (n < c * c) × (next_candidate n c ≡ d)
-  told_next d e = either (dec_le (c * c) n)
-    where
-      either : Dec (c * c ≤ n) → (n < c * c) × (next_candidate n c ≡ d)
-      either (yes h) = let e : None ≡ Some d = is_last h ∙ e in let z : ◌≡◌ {A = ℕ} 0 1 = cc in absurd (omega arith)
-      either (no g) = let h = lt_of_not-le g in let e : Some (next_candidate n c) ≡ Some d = is_next h ∙ e in (h, cc)
+  told_next d e =
+      ⊎_elim
+      (λ h. let f : Some (next_candidate n c) ≡ Some d = is_next h ∙ e in (h, cc))
+      (λ h. let f : None ≡ Some d = is_last h ∙ e in let z : ◌≡◌ {A = ℕ} 0 1 = cc in absurd (omega arith))
+      (cases_lt n (c * c))
 
 -- and what follows it
 module _ (n f c : ℕ) where
@@ -62,16 +59,15 @@ module _ (n : ℕ) (is : Root (root n) n) where
   -- from a candidate less than 2^k above the root k + 1 rounds are enough, since each halves the distance
   halving : (f k c : ℕ) → k < f → root n ≤ c → c < root n + 2 ^ k → Rounds n c (candidates_from n f c) × (length (candidates_from n f c) ≤ k + 1)
   halving zero k c h l u = absurd (omega arith)
-  halving (suc f) k c h l u = either k h u (halving f) (dec_le (c * c) n)
+  halving (suc f) k c h l u = either k h u (halving f) (cases_lt n (c * c))
     where
       either : (j : ℕ) → j < suc f → c < root n + 2 ^ j
           → ((i e : ℕ) → i < f → root n ≤ e → e < root n + 2 ^ i → Rounds n e (candidates_from n f e) × (length (candidates_from n f e) ≤ i + 1))
-          → Dec (c * c ≤ n)
+          → (n < c * c) ⊎ (c * c ≤ n)
           → Rounds n c (candidates_from n (suc f) c) × (length (candidates_from n (suc f) c) ≤ j + 1)
-      either j h u after (yes s) = let r : Root c n = rw (root_found l s) is in rw (from_last n f c s) (last r, omega arith)
-      either zero h u after (no g) = absurd (omega (arith, above (lt_of_not-le g)))
-      either (suc j) h u after (no g) =
-          let s = lt_of_not-le g in
+      either j h u after (inr s) = let r : Root c n = rw (root_found l s) is in rw (from_last n f c s) (last r, omega arith)
+      either zero h u after (inl s) = absurd (omega (arith, above s))
+      either (suc j) h u after (inl s) =
           let next = after j (next_candidate n c) (omega arith) (not_below n c is (positive n c s)) (omega (arith, half_as_far n c is (above s), rw (pow-suc 2 j) at u)) in
           rw (from_another n f c s) (another {c = c} (λ r. omega (arith, r.square)) next.0, omega (arith, next.1))
 
@@ -82,11 +78,11 @@ record Ends (n f c j : ℕ) : Type 0 where
 module _ {n : ℕ} where
   -- a round more than from the next candidate
   one_more : {f c j : ℕ} → (n < c * c → Ends n f (next_candidate n c) j) → Ends n (suc f) c (suc j)
-  one_more {f} {c} {j} after = either (dec_le (c * c) n)
-    where
-      either : Dec (c * c ≤ n) → Ends n (suc f) c (suc j)
-      either (yes s) = record { few = rw (from_last n f c s) (omega arith) }
-      either (no g) = let s = lt_of_not-le g in record { few = rw (from_another n f c s) (omega (arith, (after s).few)) }
+  one_more {f} {c} {j} after =
+      ⊎_elim
+      (λ s. record { few = rw (from_another n f c s) (omega (arith, (after s).few)) })
+      (λ s. record { few = rw (from_last n f c s) (omega arith) })
+      (cases_lt n (c * c))
 
   -- which is closer
   nearer : {f c p q p' q' j : ℕ} → 0 < q → p * p * q' ≤ 4 * (q * (p + q)) * p' → (Close p' q' n (next_candidate n c) → Ends n f (next_candidate n c) j) → Close p q n c → Ends n (suc f) c (suc j)
@@ -114,11 +110,11 @@ module _ (n : ℕ) (small : n < 2 ^ 64) where
 
   few : length (candidates n) ≤ 28
   unfolding candidates
-  few = either (dec_le hydrogen_below n)
-    where
-      either : Dec (hydrogen_below ≤ n) → length (candidates_from n 40 (first_candidate n)) ≤ 28
-      either (yes l) = omega (arith, (seven small {f = 33} (first_distant n is l small)).few)
-      either (no g) = (halving n is 40 27 (first_candidate n) (omega arith) (first_starts n is small).least (low_distance n is (lt_of_not-le g))).1
+  few =
+      ⊎_elim
+      (λ g. (halving n is 40 27 (first_candidate n) (omega arith) (first_starts n is small).least (low_distance n is g)).1)
+      (λ l. omega (arith, (seven small {f = 33} (first_distant n is l small)).few))
+      (cases_lt n hydrogen_below)
 
 pub every_search : EverySearch
 unfolding candidates

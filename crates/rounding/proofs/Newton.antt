@@ -1,12 +1,12 @@
 -- Newton's method for a root, from above: a candidate is at least the root, each round halves its distance, and the rounds are
 -- counted.
-use mathlib.Core.Path.{◌≡◌, refl, ◌∙◌}
-use mathlib.Core.Bool.{Bool, true, false, cond}
+use mathlib.Core.Path.{◌≡◌, ◌∙◌}
+use mathlib.Core.Bool.{cond}
 use Prim.Native.Nat.{ℕ, suc, ◌+◌, ◌*◌, ◌-◌, ◌/◌, ◌^◌, ◌≤◌, ◌<◌}
 use native.Mathlib.Omega.{arith}
-use native.Mathlib.Nat.{mul-le-mul, mul-le-mul_left, mul-le-mul_right, lt_of_not-le, lt-mul-div-succ, div-lt_iff_lt-mul}
-use native.Mathlib.Decide.{dec_le}
-use borrow.Author.Tests.{eq-eqb, ne_eqb, ltb-true}
+use native.Mathlib.Nat.{mul-le-mul, mul-le-mul_left, mul-le-mul_right, lt-mul-div-succ, div-lt_iff_lt-mul}
+use mathlib.Core.Logic.{⊎_elim}
+use Rattle.std.proofs.lemmas.Bool.{cases_lt, cond_both, eq-eqb, ne_eqb, ltb-true}
 use lib.Dec.{eqb, ltb}
 use lib.Pow.{pow-add, pow_mono}
 use Rattle.rounding.specs.Root.{Root, root, next_candidate, common_root, first_candidate, rounds_from, root_rounds}
@@ -17,26 +17,21 @@ ordered : (c e r : ℕ) → 2 * c + e ≤ 2 * r → c * (c + e) ≤ r * r
 ordered c e r h = omega (arith, mul-le-mul h h)
 
 mean_square : (c u r : ℕ) → c + u ≤ 2 * r → c * u ≤ r * r
-mean_square c u r h = either (dec_le c u)
-  where
-    either : Dec (c ≤ u) → c * u ≤ r * r
-    either (yes l) = let e : c + (u - c) ≡ u = omega arith in rw (← e) (ordered c (u - c) r (omega arith))
-    either (no f) =
-        let l = lt_of_not-le f in
-        let e : u + (c - u) ≡ c = omega arith in
-        omega (arith, rw e at (ordered u (c - u) r (omega arith)))
+mean_square c u r h =
+    ⊎_elim
+    (λ l. let e : c + (u - c) ≡ u = omega arith in rw (← e) (ordered c (u - c) r (omega arith)))
+    (λ l. let e : u + (c - u) ≡ c = omega arith in omega (arith, rw e at (ordered u (c - u) r (omega arith))))
+    (cases_lt c u)
 
 module _ (n c : ℕ) where
   -- the mean of c and n/c is at least the root
   pub not_below : Root (root n) n → 0 < c → root n ≤ next_candidate n c
   unfolding next_candidate
-  not_below is h = either (dec_le (2 * root n) (c + n / c))
-    where
-      either : Dec (2 * root n ≤ c + n / c) → root n ≤ (c + n / c) / 2
-      either (yes l) = omega arith
-      either (no f) =
-          let l = lt_of_not-le f in
-          absurd (omega (arith, mean_square c (n / c + 1) (root n) (omega arith), is.square, lt-mul-div-succ n {b = c} h))
+  not_below is h =
+      ⊎_elim
+      (λ l. absurd (omega (arith, mean_square c (n / c + 1) (root n) (omega arith), is.square, lt-mul-div-succ n {b = c} h)))
+      (λ l. omega arith)
+      (cases_lt (c + n / c) (2 * root n))
 
   module _ (is : Root (root n) n) (h : root n < c) where
     quotient_below : n / c < root n + 1
@@ -60,17 +55,16 @@ pub record Above (n c rounds : ℕ) : Type 0 where
 -- the first candidate
 first_least : (n : ℕ) → n < 2 ^ 64 → (root n ≤ first_candidate n) × (first_candidate n < 2 ^ 32)
 unfolding first_candidate
-first_least n h = go (ltb start (2 ^ 32)) refl
+first_least n h =
+    cond_both (ltb start (2 ^ 32)) start (2 ^ 32 - 1) (λ (c : ℕ). (root n ≤ c) × (c < 2 ^ 32))
+    (λ e. (not_below n common_root (root_is n h) (omega arith), ltb-true _ _ e))
+    (λ e. (omega (arith, below), omega arith))
   where
     start : ℕ
     start = next_candidate n common_root
 
     below : root n < 2 ^ 32
     below = below_of_squares (root n) (2 ^ 32) n (root_is n h).square (omega arith)
-
-    go : (b : Bool) → ltb start (2 ^ 32) ≡ b → (root n ≤ cond b start (2 ^ 32 - 1)) × (cond b start (2 ^ 32 - 1) < 2 ^ 32)
-    go true e = (not_below n common_root (root_is n h) (omega arith), ltb-true _ _ e)
-    go false e = (omega (arith, below), omega arith)
 
 pub first_above : (n c : ℕ) → n < 2 ^ 64 → c ≡ first_candidate n → Above n c 0
 unfolding root_rounds
@@ -119,11 +113,8 @@ module _ {n c k : ℕ} (a : Above n c k) where
     lower = omega (arith, above, half_as_far n c is above)
 
     fewer : k ≤ 31
-    fewer = either (dec_le 32 k)
-      where
-        either : Dec (32 ≤ k) → k ≤ 31
-        either (yes l) = absurd (omega (arith, pow_mono l, mul-le-mul_right (2 ^ k) above, a.close))
-        either (no f) = omega (arith, lt_of_not-le f)
+    fewer =
+        ⊎_elim (λ l. omega arith) (λ l. absurd (omega (arith, pow_mono l, mul-le-mul_right (2 ^ k) above, a.close))) (cases_lt k 32)
 
     pub again : Above n (next_candidate n c) (k + 1)
     again =

@@ -1,7 +1,7 @@
 -- The nearest whole number as the code finds it: from the quotient and its rest, and digit by digit.
 use mathlib.Core.Path.{◌≡◌, sym, ap, ◌∙◌}
 use Prim.Native.Nat.{ℕ, ◌+◌, ◌*◌, ◌-◌, ◌/◌, ◌%◌, ◌^◌, ◌≤◌, ◌<◌}
-use native.Mathlib.Nat.{div-add-mod', mod-lt, mul-add-div_right, div-eq_of_lt-le, le-mul_of_pos_right}
+use native.Mathlib.Nat.{div-add-mod', mod-lt, mul-add-div_right, div-eq_of_lt-le}
 use native.Mathlib.Omega.{arith}
 use lib.IntN.{pos, neg_ℤ}
 use Rattle.rounding.specs.Near.{near, near_z}
@@ -15,9 +15,6 @@ near_is n q r lo hi = div-eq_of_lt-le (2 * q) (omega arith) (omega arith)
 module _ (n q : ℕ) (h : 0 < q) where
   pub rest_below : n % q < q
   rest_below = mod-lt n h
-
-  pub next_fits : q - n % q ≤ n % q → n / q + 1 ≤ n
-  next_fits k = omega (arith, rest_below, div-add-mod' n q, le-mul_of_pos_right (n / q) h)
 
   -- the rest is less than what is left of q
   pub stays : n % q < q - n % q → n / q ≡ near n q
@@ -50,12 +47,6 @@ abbrev after2 : ℕ → ℕ → ℕ → ℕ
 after2 whole rest q = after1 whole rest q % q * 10000 + rest % 10000
 
 module _ {whole rest q : ℕ} (w : Wide whole rest q) where
-  pub after1_fits : after1 whole rest q < 2 ^ 64
-  after1_fits = omega (arith, rest_below whole q w.proper, w.small, w.below)
-
-  pub after2_fits : after2 whole rest q < 2 ^ 64
-  after2_fits = omega (arith, rest_below (after1 whole rest q) q w.proper, w.small)
-
   pub digits : whole / q * 1000000000 + after1 whole rest q / q * 10000 + near (after2 whole rest q) q ≡ near (dividend whole rest) q
   digits =
       let k : ℕ = whole / q * 1000000000 + after1 whole rest q / q * 10000 in

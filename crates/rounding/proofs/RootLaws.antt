@@ -1,20 +1,16 @@
 -- `root` is the integer root of every number below 2^64, and no number with a square up to n is greater than the root of n.
 use Prim.Native.Nat.{ℕ, zero, suc, ◌+◌, ◌*◌, ◌^◌, ◌≤◌, ◌<◌}
 use native.Mathlib.Omega.{arith}
-use native.Mathlib.Nat.{mul-le-mul, lt_of_not-le, pow-suc}
-use native.Mathlib.Decide.{dec_le}
-use mathlib.Core.Bool.{Bool, true, false, not, cond}
-use lib.Dec.{T, leb, leb→le, nleb→lt}
+use native.Mathlib.Nat.{mul-le-mul, pow-suc}
+use mathlib.Core.Logic.{⊎_elim}
+use lib.Dec.{leb}
+use Rattle.std.proofs.lemmas.Bool.{cases_lt, cond_both, leb-true, leb-false}
 use Rattle.rounding.specs.Root.{Root, root, root_from}
 use Rattle.rounding.specs.Laws.{RootIs}
 
 -- a number whose square is at most n is below each whose square is above n
 pub below_of_squares : (a b n : ℕ) → a * a ≤ n → n < b * b → a < b
-below_of_squares a b n h k = either (dec_le b a)
-  where
-    either : Dec (b ≤ a) → a < b
-    either (yes l) = absurd (omega (arith, mul-le-mul l l))
-    either (no f) = lt_of_not-le f
+below_of_squares a b n h k = ⊎_elim (λ l. l) (λ g. absurd (omega (arith, mul-le-mul g g))) (cases_lt a b)
 
 pub root_greatest : {n r : ℕ} → Root r n → (k : ℕ) → k * k ≤ n → k ≤ r
 root_greatest {n} {r} h k l = omega (arith, below_of_squares k (r + 1) n l h.next)
@@ -23,13 +19,9 @@ root_from_is : (k n c : ℕ) → c * c ≤ n → n < (c + 2 ^ k) * (c + 2 ^ k) �
 unfolding root_from
 root_from_is zero n c h l = record { square = h; next = l }
 root_from_is (suc k) n c h l =
-    step (leb ((c + 2 ^ k) * (c + 2 ^ k)) n) (root_from_is k n) (λ t. leb→le _ _ t) (λ t. nleb→lt _ _ t)
-  where
-    step : (b : Bool) → ((e : ℕ) → e * e ≤ n → n < (e + 2 ^ k) * (e + 2 ^ k) → Root (root_from k n e) n)
-        → (T b → (c + 2 ^ k) * (c + 2 ^ k) ≤ n) → (T (not b) → n < (c + 2 ^ k) * (c + 2 ^ k))
-        → Root (root_from k n (cond b (c + 2 ^ k) c)) n
-    step true from fits over = from (c + 2 ^ k) (fits tt) (omega (arith, rw (pow-suc 2 k) at l))
-    step false from fits over = from c h (over tt)
+    cond_both (leb ((c + 2 ^ k) * (c + 2 ^ k)) n) (c + 2 ^ k) c (λ (e : ℕ). Root (root_from k n e) n)
+    (λ t. root_from_is k n (c + 2 ^ k) (leb-true _ _ t) (omega (arith, rw (pow-suc 2 k) at l)))
+    (λ t. root_from_is k n c h (leb-false _ _ t))
 
 pub root_is : RootIs
 unfolding root

@@ -13,7 +13,7 @@ use Rattle.records.specs.declared.refusal.Refusal.TheVariants.{TooShort, MarkDif
 use Rattle.records.specs.Order.{Order, first_of, refused, accepted, decided, otherwise}
 use Rattle.records.specs.Refusals.{Verdict, number, outcome}
 use Rattle.records.specs.Answers.{meaning, Gives}
-use Rattle.records.proofs.OrderLaws.{both}
+use Rattle.std.proofs.lemmas.Bool.{and_parts}
 
 -- the refusals from 1 on
 abbrev refusals : List Refusal
@@ -47,8 +47,8 @@ numbers_from k (e ∷ es) = eqb (number e) k && numbers_from (suc k) es
 
 numbered_from : (k : ℕ) (es : List Refusal) (d : Refusal) (i : ℕ) → numbers_from k es ≡ true → i < length es → number (get_or es i d) ≡ k + i
 numbered_from k [] d i h low = absurd (omega arith)
-numbered_from k (e ∷ es) d zero h low = eqb-true (number e) k (both _ _ h).0 ∙ omega arith
-numbered_from k (e ∷ es) d (suc i) h low = numbered_from (suc k) es d i (both _ _ h).1 (omega arith) ∙ omega arith
+numbered_from k (e ∷ es) d zero h low = eqb-true (number e) k (and_parts _ _ h).0 ∙ omega arith
+numbered_from k (e ∷ es) d (suc i) h low = numbered_from (suc k) es d i (and_parts _ _ h).1 (omega arith) ∙ omega arith
 
 -- the numbers of an order are those of refusals
 abbrev pub known : Order → Bool
@@ -69,8 +69,8 @@ module _ {A B : Type 0} (f : A → B) (a : A) where
   first_low : (o : Order) → known o ≡ true → first_of o ≤ 20
   first_low [] h = omega arith
   first_low ((zero, holds) ∷ rest) h = absurd (false≢true h)
-  first_low ((suc n, true) ∷ rest) h = ltb-true n 20 (both _ _ h).0
-  first_low ((suc n, false) ∷ rest) h = first_low rest (both _ _ h).1
+  first_low ((suc n, true) ∷ rest) h = ltb-true n 20 (and_parts _ _ h).0
+  first_low ((suc n, false) ∷ rest) h = first_low rest (and_parts _ _ h).1
 
   pub answered_by : (o : Order) → known o ≡ true → outcome f (answer_with (first_of o) a) ≡ decided (first_of o) (f a)
   answered_by o h = answer_means (first_of o) (first_low o h)
