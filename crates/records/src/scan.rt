@@ -98,8 +98,7 @@ fn check_lines<E: Entries>(entries: &E) -> Result<(), Refusal>
 
 // 8 to 12, where 7 does not hold.
 fn check_fractions<E: Entries>(entries: &E) -> Result<(), Refusal>
-    requires few { length (E.lines entries.now) ≤ 55 }
-    requires ascending { line_breaks 0 (E.lines entries.now) ≡ false }
+    requires { line_breaks 0 (E.lines entries.now) ≡ false }
     ensures { number_in result ≡ first_of (fractions_order (E.lines entries.now) (E.fractions entries.now)) }
 {
     let mut scan = Scan::default();
@@ -117,7 +116,6 @@ fn check_fractions<E: Entries>(entries: &E) -> Result<(), Refusal>
 
 // 7 to 12.
 pub fn check_content<E: Entries>(entries: &E) -> Result<(), Refusal>
-    requires { length (E.lines entries.now) ≤ 55 }
     ensures { number_in result ≡ first_of (content_order (E.lines entries.now) (E.fractions entries.now)) }
 {
     check_lines(entries)?;
