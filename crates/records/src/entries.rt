@@ -1,4 +1,5 @@
 // Lists of entries, each a line number and a fraction in ppm: those of a record's bytes, or two lists.
+// A line number is any byte, of which 7 refuses some; C lends it and its fraction in two lists, and so no struct has both.
 ghost use Rattle.std.specs.Prelude.{◌≡◌, ◌≤◌, ◌<◌, List, ℕ, length, get_or};
 
 // As many fractions as line numbers, read by index, and no more than a record's byte counts.

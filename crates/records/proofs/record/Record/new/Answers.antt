@@ -1,8 +1,7 @@
 -- The numbers in the record's order.
-use mathlib.Core.Path.{refl, sym, ◌∙◌}
+use mathlib.Core.Path.{refl, ◌∙◌}
 use Rattle.records.specs.Format.{lines_in, fractions_in}
 use Rattle.records.specs.Conditions.{head_order, content_order}
-use Rattle.records.proofs.Heads.{head}
 use Rattle.records.proofs.OrderLaws.{number_passed, some_number, stops, passes}
 use Rattle.records.proofs.record.Record.new.Goals as goal
 
