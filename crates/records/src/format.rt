@@ -23,7 +23,7 @@ pub fn record_length(n: usize) -> usize
     ENTRIES_AT + 5 * n
 }
 
-// The 2-byte number at an offset. A size is a function, as each type has a `from_le_bytes` of its own.
+// The 2-byte number at an offset. Each size has a function, as each type has its `from_le_bytes`.
 pub fn number_2(bytes: &[u8], at: usize) -> u16
     requires { at + 2 ≤ length bytes.now }
     ensures { result ≡ number2 bytes.now at }
