@@ -13,7 +13,8 @@ pub use temperatures::{Combustion, Metering};
 
 const MOLAR_MASS: usize = 0;
 
-// The number of a line, counted from 1, in a column, counted from 0.
+// The number of a line, counted from 1, in a column, counted from 0, for whoever goes over the table.
+// A line is the standard's number of a component, and a record's byte of it, from which an enum of 55 names would have to be made.
 pub fn entry(line: u8, column: usize) -> i32
     requires { (1 ≤ line) × (line ≤ 55) × (column < 12) }
     ensures { result ≡ entry_of line column }
@@ -29,7 +30,7 @@ fn add_product(sum: i64, x: u32, n: i32) -> i64
     sum + i64::from(x) * i64::from(n)
 }
 
-// The same where n is not below 0.
+// The same where n is not below 0. For one generic function, a trait of the two sums and an impl for each would be longer than the two.
 fn add_unsigned(sum: u64, x: u32, n: i32) -> u64
     requires { T (non_neg n) × (sum + x * nat_abs n < 2 ^ 63) }
     ensures { pos result ≡ pos sum +ℤ pos x *ℤ n }
@@ -48,6 +49,7 @@ pub struct Sums {
 
 impl Sums {
     // One more entry: h at a combustion temperature, and s at a metering temperature.
+    // As fields of Sums they would ask for a clause that they stay.
     pub fn add(&mut self, line: u8, fraction: u32, combustion: Combustion, metering: Metering)
         requires in_table { (1 ≤ line) × (line ≤ 55) }
         requires room { (self.old.superior < 2 ^ 62) × (self.old.inferior < 2 ^ 62) × (self.old.mass < 2 ^ 62) × (nat_abs self.old.summation < 2 ^ 62) }

@@ -83,7 +83,7 @@ fn holds_properties(row: &Row) -> bool
         & (row[words::W] == steps::index(row[words::HS], row[words::D]))
 }
 
-// Whether rho in a row is d times the density of air, from the metering temperature in °C.
+// Whether rho in a row is d times the density of air, from the metering temperature in °C: a `u8`, as in steps.rt of crates/properties.
 fn holds_density(row: &Row, metering: u8) -> bool
     requires { Bounded (six_in row.now) }
     ensures { Tells result (DensityByAir metering (six_in row.now)) }

@@ -1,6 +1,7 @@
 // The meter of document 01 in words that the caller lends and a call changes in place, so that firmware in C or Rust can call it and keep
 // it. A row of words holds a stream. Each call on a stream tests 13 and works on the stream's row alone; a refusal leaves all that was
 // lent as it was.
+// The calls of crates/meter change a `Meter`; here words are lent, of which an analysis changes nine, and a metering call seven.
 #![tactic(auto)]
 
 mod held;
@@ -103,7 +104,7 @@ pub fn totals(words: &Words, stream: usize) -> Result<StreamTotals, Refusal>
     Ok(words::totals_in(&words[stream]))
 }
 
-// Totals as words.
+// Totals as words, as C's struct has them.
 pub fn totals_words(totals: StreamTotals) -> [u64; 7]
     ensures { result ≡ packed_totals totals }
 {

@@ -1,7 +1,7 @@
 // What firmware in C and Rust calls: the meter in words that the caller lends, the properties of a record, its calorific values per
 // kilogram, and records read and written. crates/loonstool_c exports each of these functions; include/loonstool.h declares the exports for
 // C, rust/ wraps them for Rust. Each call that may be refused gives 0, or document 01's number, by which alone C knows a refusal; a
-// refusal leaves what the caller lent as it was.
+// refusal leaves what the caller lent as it was. C passes plain numbers and lists, and has no enum with a value.
 #![tactic(auto)]
 
 ghost use Rattle.std.specs.Prelude.{◌≡◌, ℕ};

@@ -1,4 +1,5 @@
 // The static library that firmware links: each function that include/loonstool.h declares, by that of crates/loonstool, with its clauses.
+// C passes plain numbers and lists. Each function stands twice, as no crate can stand on a static library, and crates/tally has to.
 // proofs/Cited.antt shows of the meter's calls that their contracts are those of which crates/tally speaks.
 #![tactic(auto)]
 

@@ -6,6 +6,7 @@ ghost use Rattle.std.specs.Prelude.{◌≤◌};
 
 use std::io;
 
+// A line and its columns are numbers, as `entry` takes them, since they are counted through.
 fn print_line(rt: &impl Print, line: u8) -> io::Result<()>
     requires { (1 ≤ line) × (line ≤ 55) }
 {

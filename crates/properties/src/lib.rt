@@ -30,7 +30,7 @@ pub struct Properties {
     pub w: WobbeIndex,
 }
 
-// The properties of a gas that no condition refuses, from its sums and its metering temperature in °C.
+// The properties of a gas that no condition refuses, from its sums and its metering temperature in °C: a `u8`, as in steps.rt.
 pub fn properties_from(sums: Sums, metering: u8) -> Properties
     requires { Summed sums.superior sums.inferior sums.mass sums.summation metering }
     ensures { SixOfSums sums.superior sums.inferior sums.mass sums.summation metering (numbers result) }
@@ -57,7 +57,7 @@ pub fn properties_from(sums: Sums, metering: u8) -> Properties
 pub fn properties_in(accepted: &Record) -> Properties
     ensures { numbers result ≡ six_of (contents_in accepted.now.bytes.now) }
 {
-    properties_from(sums::sums_of(accepted), accepted.metering())
+    properties_from(sums::sums_of(accepted), accepted.pair().metering)
 }
 
 // The properties of a record.

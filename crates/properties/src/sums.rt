@@ -38,8 +38,9 @@ pub fn sums_of(accepted: &Record) -> Sums
     ensures mass { result.mass ≡ M (contents_in accepted.now.bytes.now) }
     ensures summation { result.summation ≡ S (contents_in accepted.now.bytes.now) }
 {
-    let combustion = combustion_of(accepted.combustion());
-    let metering = metering_of(accepted.metering());
+    let pair = accepted.pair();
+    let combustion = combustion_of(pair.combustion);
+    let metering = metering_of(pair.metering);
     let entries = accepted.entries();
     let mut sums = Sums::default();
     for i in 0..entries.len() {

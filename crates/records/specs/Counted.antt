@@ -1,6 +1,6 @@
--- A record has as many line numbers, and as many fractions, as its entry count says.
+-- A record has as many line numbers, and as many fractions, as its entry count says, a byte.
 use mathlib.Core.Path.{◌≡◌, refl, sym, ap, ◌∙◌}
-use Rattle.std.specs.Prelude.{List, ℕ, zero, suc, length, drop}
+use Rattle.std.specs.Prelude.{List, ℕ, zero, suc, ◌≤◌, length, drop}
 use Rattle.records.specs.Format.{count_in, entries_in, lines_of, fractions_of, lines_in, fractions_in}
 
 length_lines : (n : ℕ) (es : List ℕ) → length (lines_of n es) ≡ n
@@ -22,3 +22,6 @@ module _ (bs : List ℕ) where
 
   pub same_in : length (fractions_in bs) ≡ length (lines_in bs)
   same_in = count_fractions ∙ sym count_lines
+
+  pub few_in : count_in bs ≤ 255 → length (lines_in bs) ≤ 255
+  few_in h = rw count_lines h

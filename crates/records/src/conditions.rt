@@ -8,6 +8,7 @@ use super::format;
 use super::record::Head;
 use super::refusal::Refusal;
 
+// Lines of the component table, numbers as in a record: an enum of these five would leave the other fifty without a name.
 pub const METHANE: u8 = 1;
 
 const ETHANE: u8 = 2;

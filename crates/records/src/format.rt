@@ -23,7 +23,7 @@ pub fn record_length(n: usize) -> usize
     ENTRIES_AT + 5 * n
 }
 
-// The 2-byte number at an offset.
+// The 2-byte number at an offset. Each size has a function, as each type has its `from_le_bytes`.
 pub fn number_2(bytes: &[u8], at: usize) -> u16
     requires { at + 2 ≤ length bytes.now }
     ensures { result ≡ number2 bytes.now at }
@@ -81,8 +81,7 @@ fn put_entry(out: &mut [u8], at: usize, line: u8, fraction: u32)
 
 // The entries, where they begin.
 fn put_entries<E: Entries>(out: &mut [u8], entries: &E)
-    requires few { length (E.lines entries.now) ≤ 55 }
-    requires room { record_length (length (E.lines entries.now)) ≤ length out.old }
+    requires { record_length (length (E.lines entries.now)) ≤ length out.old }
     ensures { out.new ≡ placed out.old entries_at (entries_bytes (E.lines entries.now) (E.fractions entries.now)) }
 {
     for k in 0..entries.len() {
@@ -92,8 +91,7 @@ fn put_entries<E: Entries>(out: &mut [u8], entries: &E)
 
 // Contents as a record into the first bytes of a buffer that has room for it.
 pub fn put_record<E: Entries>(pair: Pair, entries: &E, out: &mut [u8])
-    requires few { length (E.lines entries.now) ≤ 55 }
-    requires room { record_length (length (E.lines entries.now)) ≤ length out.old }
+    requires { record_length (length (E.lines entries.now)) ≤ length out.old }
     ensures { out.new ≡ placed out.old 0 (bytes_of (contents pair.combustion pair.metering (E.lines entries.now) (E.fractions entries.now))) }
 {
     put_head(out, pair, entries.len() as u8);

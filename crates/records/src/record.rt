@@ -41,19 +41,6 @@ impl Head<'_> {
         }
     }
 
-    // The temperatures of the pair, in °C.
-    pub fn combustion(&self) -> u8
-        ensures { result ≡ combustion_in self.now.bytes.now }
-    {
-        self.pair().combustion
-    }
-
-    pub fn metering(&self) -> u8
-        ensures { result ≡ metering_in self.now.bytes.now }
-    {
-        self.pair().metering
-    }
-
     // How many entries the record has.
     pub fn count(&self) -> usize
         ensures { (result ≡ count_in self.now.bytes.now) × (result ≤ 255) }
@@ -73,13 +60,15 @@ pub struct RecordEntries<'a> {
 impl Entries for RecordEntries<'_> {
     ghost use Rattle.std.specs.Prelude.{◌≡◌};
     ghost use Rattle.records.specs.Format.{lines_in, fractions_in};
-    ghost use Rattle.records.specs.Counted.{same_in};
+    ghost use Rattle.records.specs.Counted.{same_in, few_in};
 
     ghost lines = { λ e. lines_in e.bytes.now };
 
     ghost fractions = { λ e. fractions_in e.bytes.now };
 
     ghost same = { λ e. same_in e.bytes.now };
+
+    ghost few = { λ e. few_in e.bytes.now e.few };
 
     fn len(&self) -> usize {
         Head { bytes: self.bytes }.count()
@@ -122,19 +111,6 @@ impl<'a> Record<'a> {
         ensures { result ≡ record { combustion = combustion_in self.now.bytes.now; metering = metering_in self.now.bytes.now } }
     {
         self.head().pair()
-    }
-
-    // The temperatures of the pair, in °C.
-    pub fn combustion(&self) -> u8
-        ensures { result ≡ combustion_in self.now.bytes.now }
-    {
-        self.pair().combustion
-    }
-
-    pub fn metering(&self) -> u8
-        ensures { result ≡ metering_in self.now.bytes.now }
-    {
-        self.pair().metering
     }
 
     pub fn head(&self) -> Head<'a>

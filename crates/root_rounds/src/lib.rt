@@ -1,4 +1,5 @@
 // The search for the integer square root in rounds, each of which tries one candidate.
+// That of crates/rounding begins elsewhere and keeps no candidate: the two would share a loop of few lines.
 #![tactic(auto)]
 
 ghost use Rattle.std.specs.Prelude.{◌≡◌, ◌+◌, ◌/◌, ◌^◌, ◌<◌};

@@ -7,6 +7,7 @@ ghost use Rattle.rounding.specs.Wide.{Wide, dividend};
 ghost use Rattle.rounding.specs.Root.{root, first_candidate, root_rounds};
 
 // The whole number nearest to n / q, halves upward. n is not doubled, so every n has an answer.
+// Every caller knows that its q is above 0, and would have to make a `NonZeroU64` of it.
 pub fn nearest(n: u64, q: u64) -> u64
     requires { 0 < q }
     ensures { result ≡ near n q }
@@ -17,6 +18,7 @@ pub fn nearest(n: u64, q: u64) -> u64
 }
 
 // The same for the dividend whole * 10^9 + rest, by long division: first whole, then rest in digits of 10^5 and 10^4.
+// A struct of the two would be made for this call alone: a register is a type of crates/meter, and that of a mass has another base.
 pub fn nearest_wide(whole: u64, rest: u64, q: u64) -> u64
     requires { Wide whole rest q }
     ensures { result ≡ near (dividend whole rest) q }
@@ -27,6 +29,7 @@ pub fn nearest_wide(whole: u64, rest: u64, q: u64) -> u64
 }
 
 // The size of the whole number nearest to -n / q, halves upward: of a half, the smaller one.
+// One function for both would take a flag, which each caller of `nearest` would have to give.
 fn nearest_below_zero(n: u64, q: u64) -> u64
     requires { 0 < q }
     ensures { neg_ℤ (pos result) ≡ near_z (neg_ℤ (pos n)) q }

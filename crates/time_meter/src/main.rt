@@ -12,14 +12,14 @@ use records::Refusal;
 use std::fmt::{Display, Formatter};
 use std::{fmt, io};
 
-// 15 °C for even streams, 0 °C for odd ones.
+// 15 °C for even streams, 0 °C for odd ones, as the byte of a record.
 fn temperature(stream: usize) -> u8
     ensures { result ≡ temperature_of stream }
 {
     if stream % 2 == 0 { 15 } else { 0 }
 }
 
-// The record of methane alone at t/t.
+// The record of methane alone at t/t. `records::write` would need a buffer and an answer for its refusal; these are its 13 bytes.
 fn methane(t: u8) -> [u8; 13]
     ensures { result ≡ methane_at t }
 {

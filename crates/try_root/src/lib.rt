@@ -15,7 +15,8 @@ pub extern "C" fn try_root_first_candidate(n: u64) -> u32
     root_rounds::first_candidate(n)
 }
 
-// One round of the search for the root of n, which tries c: whether it is the last. Where it is not, the next candidate goes into `next`.
+// One round of the search for the root of n, which tries c: whether it is the last. Where it is not, the next candidate goes into `next`:
+// C has no Option.
 #[unsafe(no_mangle)]
 pub extern "C" fn try_root_round(n: u64, c: u32, next: &mut u32) -> bool
     ensures { (result ≡ is_none (round_of n c)) × (next.new ≡ unwrap_or (round_of n c) next.old) }

@@ -5,6 +5,7 @@ use native.Mathlib.Omega.{arith}
 use Rattle.components.specs.Table.{superior, inferior, summation}
 use Rattle.components.specs.Composition.{sum_of}
 use Rattle.components.proofs.Summing.{sums_small, next_sums, all_sums}
+use Rattle.records.specs.declared.pair.Pair.{Pair}
 use Rattle.records.specs.Format.{contents_in}
 use Rattle.records.proofs.Accepted.{acceptable}
 use Rattle.properties.specs.Chain.{combustion_place, metering_place, HmSuperior, HmInferior, M, S}
@@ -33,8 +34,8 @@ returns c =
     let bs = c.args.accepted.now.bytes.now in
     let k = contents_in bs in
     let a = acceptable bs c.args.accepted.now.accepted in
-    let t = c.combustion_of-combustion.ensures ∙ ap combustion_place c.combustion.ensures in
-    let j = c.metering_of-metering.ensures ∙ ap metering_place c.metering.ensures in
+    let t = c.combustion_of-combustion.ensures ∙ ap (λ (p : Pair). combustion_place p.combustion) c.pair-pair.ensures in
+    let j = c.metering_of-metering.ensures ∙ ap (λ (p : Pair). metering_place p.metering) c.pair-pair.ensures in
     let e = all_sums c.loop-i.invariant (omega (arith, rw c.entries-entries.ensures at c.len-i-end.ensures)) in
     record {
       superior = amount_is k a (ap superior t) _ e.0;

@@ -14,5 +14,5 @@ loop-k-preserved g c =
     let a = c.args in
     let at = c.loop-k in (
       c.put_entry.auto.out ∙ at.invariant.0,
-      c.put_entry.ensures ∙ rw (c.record_length.ensures, c.line.ensures, c.fraction.ensures) (next_written a.out.now at.out entries_at (g.E.Entries.lines a.entries.now) (g.E.Entries.fractions a.entries.now) at.k (omega (arith, c.len-k-end.ensures)) (sym same) (omega (arith, c.requires.room)) at.invariant.1),
+      c.put_entry.ensures ∙ rw (c.record_length.ensures, c.line.ensures, c.fraction.ensures) (next_written a.out.now at.out entries_at (g.E.Entries.lines a.entries.now) (g.E.Entries.fractions a.entries.now) at.k (omega (arith, c.len-k-end.ensures)) (sym same) (omega (arith, c.requires)) at.invariant.1),
     )

@@ -1,17 +1,9 @@
 -- The numbers in the record's order.
-use mathlib.Core.Path.{refl, sym, ◌∙◌}
-use native.Mathlib.Omega.{arith}
+use mathlib.Core.Path.{refl, ◌∙◌}
 use Rattle.records.specs.Format.{lines_in, fractions_in}
-use Rattle.records.specs.Counted.{count_lines}
 use Rattle.records.specs.Conditions.{head_order, content_order}
-use Rattle.records.proofs.Heads.{head}
 use Rattle.records.proofs.OrderLaws.{number_passed, some_number, stops, passes}
 use Rattle.records.proofs.record.Record.new.Goals as goal
-
-pub check_content-requires : goal.check_content-requires
-check_content-requires c =
-    let h = head c.args.bytes.now (sym c.in_ok-check_head.ensures) in
-    omega (arith, count_lines c.args.bytes.now, h.entries.few)
 
 pub returns-in_err-check_head-clause-number : goal.returns-in_err-check_head-clause-number
 returns-in_err-check_head-clause-number c =
