@@ -195,8 +195,8 @@ fn sums() -> Sums
     ensures summation { result.summation ≡ S gas }
 {
     let mut sums = Sums::default();
-    for i in 0..8 {
-        sums.add(LINES[i], FRACTIONS[i], Combustion::At15, Metering::At15);
+    for (line, fraction) in LINES.iter().zip(&FRACTIONS) {
+        sums.add(*line, *fraction, Combustion::At15, Metering::At15);
     }
     sums
 }
