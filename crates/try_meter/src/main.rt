@@ -10,7 +10,7 @@
 mod call;
 mod printed;
 
-ghost use Rattle.std.specs.Prelude.{◌≡◌, ◌≤◌, IfOk, vec_len};
+ghost use Rattle.std.specs.Prelude.{◌≡◌, ◌≤◌, vec_len};
 ghost use Rattle.try_meter.specs.Calls.{filled_by, after_call};
 
 use call::{Call, Calls, Kind};
@@ -18,7 +18,7 @@ use meter::{Energy, Meter, StreamTotals};
 use printed::{Accepted, Answer, Mean, Totals};
 use properties::quantities::CalorificValue;
 use records::Refusal;
-use std::alloc::{AllocError, Allocator};
+use std::alloc::Allocator;
 use std::io;
 use std::io::{Input, Read};
 
@@ -104,16 +104,18 @@ fn run(rt: &impl Print, input: &[u8]) -> io::Result<()> {
 }
 
 // What can be read of the input, up to 2,048 bytes.
-fn read_input<R: Read + Drop, A: Allocator>(reader: R, alloc: A) -> Result<Vec<u8, A>, AllocError>
-    ensures { IfOk result (λ bytes. vec_len bytes ≤ 2048) }
+fn read_input<R: Read + Drop, A: Allocator>(reader: R, alloc: A) -> Vec<u8, A>
+    ensures { vec_len result ≤ 2048 }
 {
-    let read = reader.bytes().take(2048);
-    read.map_while(Result::ok).collect(alloc)
+    let mut bytes = Vec::new(alloc);
+    let _ = reader.take(2048).read_to_end(&mut bytes);
+    // No clause of `read_to_end` says what the reader's limit is: this shows the bound.
+    bytes.truncate(2048);
+    bytes
 }
 
 // It ends alike where memory is short or a write fails.
 fn main(rt: HostRuntime) {
-    if let Ok(input) = read_input(rt.reader(), rt.alloc()) {
-        let _ = run(&rt, &input);
-    }
+    let input = read_input(rt.reader(), rt.alloc());
+    let _ = run(&rt, &input);
 }
