@@ -12,33 +12,37 @@ use records::Refusal;
 use std::fmt::{Display, Formatter};
 use std::{fmt, io};
 
-// 15 °C for even streams, 0 °C for odd ones.
+// 15 °C for even streams, 0 °C for odd ones: a number, as the byte of the record that it is.
 fn temperature(stream: usize) -> u8
     ensures { result ≡ temperature_of stream }
 {
     if stream % 2 == 0 { 15 } else { 0 }
 }
 
-// The record of methane alone at t/t.
-fn methane(t: u8) -> [u8; 13]
-    ensures { result ≡ methane_at t }
+// The record of methane alone at a stream's temperature, the same for combustion and metering.
+#[tactic(auto, unfolding(records::specs::Format::entries_bytes))]
+fn methane(stream: usize) -> [u8; 13]
+    ensures { result ≡ methane_at (temperature_of stream) }
 {
+    let t = temperature(stream);
     [b'G', b'C', b'R', 1, 0, t, t, 1, 1, 0x40, 0x42, 0x0F, 0]
 }
 
-// An analysis on each stream.
+// An analysis on each stream. A `for`: the calls change one meter in place, which a fold would hand on from turn to turn.
 fn analyse(meter: &mut Meter)
     ensures { meter.new ≡ analysed_to 16 meter.old }
 {
+    #[tactic(auto, unfolding(crate::specs::Calls::analysed_to))]
     for stream in 0..16 {
-        let _ = meter.analysis(stream, &methane(temperature(stream)));
+        let _ = meter.analysis(stream, &methane(stream));
     }
 }
 
-// The metering calls, from stream to stream.
+// The metering calls, from stream to stream, by a `for` as in `analyse`.
 fn take_volumes(meter: &mut Meter)
     ensures { meter.new ≡ metered_to 10000000 meter.old }
 {
+    #[tactic(auto, unfolding(crate::specs::Calls::metered_to))]
     for i in 0..10000000 {
         let _ = meter.metering((i % 16) as usize, i % 1000);
     }
