@@ -16,10 +16,3 @@ module _ (f : ℕ → ℕ) (bound n : ℕ) where
 pub mass_above : (l : ℕ) → 1 ≤ l → l ≤ 55 → 20159 ≤ number_of l molar_mass
 unfolding component_table
 mass_above l lo hi = at_least (λ (k : ℕ). nat_abs (get_or (get_or component_table k []) molar_mass (pos 0))) 20159 55 tt (l - 1) (omega arith)
-
--- a number of a line times at most a million fits 64 bits
-pub product_high : (l c : ℕ) {x n : ℕ} → x ≤ 1000000 → n ≡ number_of l c → x * n ≤ 1000000 * largest
-product_high l c {x} {n} h e = mul-le-mul {m₂ = largest} h (omega (arith, e, entry_below l c))
-
-pub product_fits : (l c : ℕ) {x n : ℕ} → x ≤ 1000000 → n ≡ number_of l c → Fits w64 (x * n)
-product_fits l c h e = record { fits = omega (arith, product_high l c h e) }

@@ -1,5 +1,5 @@
 // The gas of annex D at 15/15: table D.1, its sums, and formulas (7) and (9).
-ghost use Rattle.std.specs.Prelude.{◌≡◌, ◌%◌, ◌<◌, slice_index, refl};
+ghost use Rattle.std.specs.Prelude.{◌≡◌, ◌%◌, ◌<◌, ◌≤◌, slice_index, refl};
 ghost use Rattle.properties.specs.Chain.{HmSuperior, M, S};
 ghost use Rattle.printed_tables.specs.Figures.{number_of};
 ghost use Rattle.printed_tables.specs.Gas.{gas, line_at, fraction_at, mass_part, volume_part, gas_totals};
@@ -69,10 +69,11 @@ fn column_of(k: usize) -> Column
     COLUMNS[k % 6]
 }
 
-// The i-th line's number in a column of the component table, without its sign.
+// The i-th line's number in a column of the component table, without its sign: `tables::number` at the line that stands at i.
 fn number(i: usize, column: usize) -> u64
     requires { (i < 8) × (column < 12) }
-    ensures { result ≡ number_of (line_at i) column }
+    ensures value { result ≡ number_of (line_at i) column }
+    ensures small { result ≤ 10000000 }
 {
     tables::number(usize::from(LINES[i]), column)
 }
@@ -169,22 +170,24 @@ pub struct Totals {
 }
 
 // A line's part of formula (7): its mass fraction, unit 10^-7, times its calorific value, unit 10^-5 MJ/kg.
+#[tactic(auto, unfolding(crate::specs::Gas::mass_part))]
 fn mass_part(i: usize, total: u64) -> u64
     requires { (i < 8) × (total ≡ M gas) }
     ensures { result ≡ mass_part i }
 {
     let m = number(i, tables::M);
-    let h = number(i, tables::H_15);
+    let h = number(i, Combustion::At15.superior());
     let fraction = rounding::nearest(fraction(i) * m * 10000000, total);
     fraction * rounding::nearest(1000000 * h, m)
 }
 
 // A line's part of formula (9): its fraction times its calorific value.
+#[tactic(auto, unfolding(crate::specs::Gas::volume_part, properties::specs::Chain::D, properties::specs::Chain::T))]
 fn volume_part(i: usize) -> u64
     requires { i < 8 }
     ensures { result ≡ volume_part i }
 {
-    let h = number(i, tables::H_15);
+    let h = number(i, Combustion::At15.superior());
     fraction(i) * steps::ideal_calorific_value(1000000 * h, 15)
 }
 

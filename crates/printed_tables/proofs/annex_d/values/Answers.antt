@@ -31,7 +31,3 @@ wobbe_index-requires c =
     let h : c.ideal_calorific_value-h_0.result ≡ ideal_h = cc in
     let d : c.ideal_relative_density-d_0.result ≡ ideal_d = cc in
     (omega (arith, h, ideal_h_lem), omega (arith, d, ideal_d_lem), omega (arith, d, ideal_d_lem))
-
-pub returns : goal.returns
-unfolding ideal_hm ideal_h ideal_d ideal_rho ideal_w D T
-returns c = cc

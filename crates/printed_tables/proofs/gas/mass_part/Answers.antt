@@ -1,12 +1,12 @@
 -- The products fit 64 bits, and no divisor is 0.
 use Rattle.std.proofs.Common.{◌≡◌, ◌*◌, ◌≤◌, arith, rules}
 use Rattle.printed_tables.specs.Gas.{mass_part}
-use Rattle.printed_tables.proofs.NumberLaws.{mass_above, product_fits}
+use Rattle.printed_tables.proofs.NumberLaws.{mass_above}
 use Rattle.printed_tables.proofs.GasLaws.{line_in, mass_high_lem, m_value, mass_part_high}
 use Rattle.printed_tables.proofs.gas.mass_part.Goals as goal
 
 product : (c : goal.After-fraction) → c.fraction.result * c.number-m.result ≤ 150000000000
-product c = rw (c.fraction.ensures, c.number-m.ensures) (mass_high_lem _ c.requires.0)
+product c = rw (c.fraction.ensures, c.number-m.ensures.value) (mass_high_lem _ c.requires.0)
 
 part-is : (c : goal.After-nearest) → c.nearest-fraction.result * c.nearest.result ≡ mass_part c.args.i
 unfolding mass_part
@@ -21,14 +21,8 @@ overflow_mul-fraction-2 c = let h = product c in search rules
 pub nearest-fraction-requires : goal.nearest-fraction-requires
 nearest-fraction-requires c = let m = m_value in search rules
 
-pub overflow_mul-h : goal.overflow_mul-h
-overflow_mul-h c = product_fits _ _ (omega arith) c.number-h.ensures
-
 pub nearest-requires : goal.nearest-requires
 nearest-requires c = let l = line_in c.args.i (search rules) in let m = mass_above _ l.0 l.1 in search rules
 
 pub overflow_mul-result : goal.overflow_mul-result
 overflow_mul-result c = record { fits = omega (arith, part-is c, mass_part_high _ c.requires.0) }
-
-pub returns : goal.returns
-returns c = part-is c

@@ -2,7 +2,6 @@
 use Rattle.std.proofs.Common.{◌≡◌, ◌*◌, arith}
 use Rattle.properties.specs.Chain.{D, T}
 use Rattle.printed_tables.specs.Gas.{volume_part}
-use Rattle.printed_tables.proofs.NumberLaws.{product_high, product_fits}
 use Rattle.printed_tables.proofs.GasLaws.{volume_part_high}
 use Rattle.printed_tables.proofs.gas.volume_part.Goals as goal
 
@@ -11,14 +10,5 @@ part-is : (c : goal.After-ideal_calorific_value)
 unfolding volume_part D T
 part-is c = cc
 
-pub overflow_mul-h : goal.overflow_mul-h
-overflow_mul-h c = product_fits _ _ (omega arith) c.number-h.ensures
-
-pub ideal_calorific_value-requires : goal.ideal_calorific_value-requires
-ideal_calorific_value-requires c = omega (arith, product_high _ _ {x = 1000000} (omega arith) c.number-h.ensures)
-
 pub overflow_mul-result : goal.overflow_mul-result
 overflow_mul-result c = record { fits = omega (arith, part-is c, volume_part_high _ c.requires) }
-
-pub returns : goal.returns
-returns c = part-is c
