@@ -48,10 +48,7 @@ impl Display for TwoLines {
 }
 
 // The lines of an answer, or the one line of a refusal.
-fn print_answer<T: Display + Drop>(
-    rt: &impl Print,
-    answer: Result<T, Refusal>,
-) -> io::Result<()> {
+fn print_answer<T: Display + Drop>(rt: &impl Print, answer: Result<T, Refusal>) -> io::Result<()> {
     match answer {
         Ok(lines) => print!(rt; "{lines}"),
         Err(refusal) => println!(rt; "{refusal}"),

@@ -122,4 +122,5 @@ demand3 m₀ m cs rs made ran =
       analyses = λ bs. analyses bs fresh_tally r.answers;
       leaves = each_leaves m₀ cs rs m fresh_tally start ran;
       required = required m r.linked.sound;
+      sound = r.linked.sound;
     }

@@ -15,7 +15,7 @@ use Rattle.properties.specs.Quantities.{calorific_bound}
 use Rattle.properties.specs.Accepted.{Shown}
 use Rattle.meter.specs.declared.Gas.{Gas}
 use Rattle.meter.specs.declared.Meter.{Meter}
-use Rattle.meter.specs.State.{stream_at}
+use Rattle.meter.specs.State.{Sound, stream_at}
 use Rattle.tally.specs.Tally.{last_stream, Energy, Ask, analysis, metering, totals, mean, Call, on, done, Answer, Account, StreamTally, account_of, given_by, tally_at, fresh_tally, answers_to, tallied}
 use Rattle.tally.specs.Run.{TotalsAnswer, MeanAnswer, AnalysisAsks, MeteringAsks, TotalsAsks, MeanAsks, FreshReturns, TotalsReturns, MeanReturns, totals_answer, mean_answer, Run, ended, after}
 
@@ -117,6 +117,8 @@ pub record Demand3 (m₀ : Meter) (cs : List Call) (rs : List Answer) (m : Meter
   pub leaves : EachLeaves m₀ cs rs m ran
   -- what the contracts require holds after the list; since the claim is for every list, it holds before each of its calls too
   pub required : Required m
+  -- and so does what the type of a stream carries of the meter, in the place of such a clause
+  pub sound : Sound m
 
 -- demand 3: for every list of calls from a meter that `Meter::new` returned
 abbrev pub Claim : Type 0

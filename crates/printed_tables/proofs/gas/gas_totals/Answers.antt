@@ -12,20 +12,20 @@ s_read n e = rw e (to_z-of_z (fits_signed_from_abs w64 (S gas) (omega (arith, s_
 
 pub loop-i-init : goal.loop-i-init
 unfolding sum_to
-loop-i-init c = (omega arith, refl, refl, refl)
+loop-i-init c = (refl, refl, refl)
 
 pub overflow_add-x : goal.overflow_add-x
-overflow_add-x c = more_fits fraction_at (λ k h. omega (arith, fraction_high k h)) _ c.loop-i-test.true c.loop-i.invariant.1 c.fraction-x.ensures
+overflow_add-x c = more_fits fraction_at (λ k h. omega (arith, fraction_high k h)) _ c.loop-i-test.true c.loop-i.invariant.0 c.fraction-x.ensures
 
 pub overflow_add-mass : goal.overflow_add-mass
-overflow_add-mass c = more_fits mass_part mass_part_high _ c.loop-i-test.true c.loop-i.invariant.2 c.mass_part-mass.ensures
+overflow_add-mass c = more_fits mass_part mass_part_high _ c.loop-i-test.true c.loop-i.invariant.1 c.mass_part-mass.ensures
 
 pub overflow_add-volume : goal.overflow_add-volume
-overflow_add-volume c = more_fits volume_part volume_part_high _ c.loop-i-test.true c.loop-i.invariant.3 c.volume_part-volume.ensures
+overflow_add-volume c = more_fits volume_part volume_part_high _ c.loop-i-test.true c.loop-i.invariant.2 c.volume_part-volume.ensures
 
 pub loop-i-preserved : goal.loop-i-preserved
 unfolding sum_to
-loop-i-preserved c = (omega arith, rw add-one (cc), rw add-one (cc), rw add-one (cc))
+loop-i-preserved c = (rw add-one (cc), rw add-one (cc), rw add-one (cc))
 
 pub returns : goal.returns
 unfolding sum_to total
@@ -33,4 +33,4 @@ returns c =
     let e : c.loop-i.i ≡ 8 = omega arith in
     let inv = c.loop-i.invariant in
     let sums = c.sums-sums.ensures in
-    rw (sums.superior, sums.mass, c.unsigned_abs-s.ensures.value, s_read _ sums.summation, inv.1, inv.2, inv.3, e)
+    rw (sums.superior, sums.mass, c.unsigned_abs-s.ensures.value, s_read _ sums.summation, inv.0, inv.1, inv.2, e)

@@ -33,7 +33,7 @@ loop-line-preserved c =
     let n : length (c.loop-line.yielded ++ (c.in-Some.line, c.in-Some.fraction) ∷ []) ≡ k + 1 = grind (arith, common_steps) in
     rw n (
       next_sums c.loop-line.invariant.0 composition l.0
-      (rw (l.1, x.1) at e.superior) (rw (l.1, x.1) at e.inferior) (rw (l.1, x.1) at e.mass) (rw (l.1, x.1) at e.summation),
+          (rw (l.1, x.1) at e.superior) (rw (l.1, x.1) at e.inferior) (rw (l.1, x.1) at e.mass) (rw (l.1, x.1) at e.summation),
       l.2,
       x.2,
     )
