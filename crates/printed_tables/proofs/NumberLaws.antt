@@ -1,8 +1,7 @@
 -- Bounds that compute, and bounds of a line's numbers.
-use Rattle.std.proofs.Common.{◌≡◌, ℕ, ◌-◌, ◌*◌, ◌<◌, ◌≤◌, T, leb, [], get_or, pos, nat_abs, mul-le-mul, arith, leb→le, w64, Fits}
+use Rattle.std.proofs.Common.{ℕ, ◌-◌, ◌<◌, ◌≤◌, T, leb, [], get_or, pos, nat_abs, arith, leb→le}
 use Rattle.components.specs.Table.{component_table, molar_mass}
 use Rattle.components.proofs.Every.{every, at}
-use Rattle.components.proofs.Entries.{largest, entry_below}
 use Rattle.printed_tables.specs.Figures.{number_of}
 
 module _ (f : ℕ → ℕ) (bound n : ℕ) where

@@ -15,7 +15,7 @@ use properties::{Properties, steps};
 use records::{Pair, Refusal};
 use std::io;
 
-// The values of the figures of the text, six to a row.
+// The values of the figures of the text, six to a row, as in specs/Text: one list of thirty is no plainer.
 pub type Values = [[u64; 6]; 5];
 
 // The values whose figures are printed, from the sums and the properties of the gas: h_m is the calorific value per kilogram, unit
@@ -111,6 +111,7 @@ fn properties() -> Result<Properties, Refusal> {
         combustion: 15,
         metering: 15,
     };
+    // An array takes no computed length: 48 is `record_length(8)`.
     let mut record = [0u8; 48];
     records::write(pair, &gas::LINES, &gas::FRACTIONS, &mut record)?;
     properties::properties_of(&record)

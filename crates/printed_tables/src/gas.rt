@@ -60,7 +60,7 @@ const COLUMNS: [Column; 6] = [
 // Their names, apart from the numbers: no proof names a constant in which text stands.
 const NAMES: [&str; 6] = ["M", "H", "s", "x M", "x H", "x s"];
 
-// The column of the k-th figure.
+// The column of the k-th figure. Here a figure is its place in the list, as `Part` counts it: a type of it would be this number.
 fn column_of(k: usize) -> Column
     ensures column { result.column ≡ slice_index row_columns (k % 6) }
     ensures scale { result.scale ≡ slice_index row_scales (k % 6) }
@@ -69,7 +69,8 @@ fn column_of(k: usize) -> Column
     COLUMNS[k % 6]
 }
 
-// The i-th line's number in a column of the component table, without its sign: `tables::number` at the line that stands at i.
+// The i-th line's number in a column of the component table, without its sign: `tables::number` where the line stands in a list. By its place,
+// as specs/Gas has it: a type of places would be this number too.
 fn number(i: usize, column: usize) -> u64
     requires { (i < 8) × (column < 12) }
     ensures value { result ≡ number_of (line_at i) column }
@@ -169,7 +170,8 @@ pub struct Totals {
     pub volume: u64,
 }
 
-// A line's part of formula (7): its mass fraction, unit 10^-7, times its calorific value, unit 10^-5 MJ/kg.
+// A line's part of formula (7): its mass fraction, unit 10^-7, times its calorific value, unit 10^-5 MJ/kg. It shares no step with (9),
+// which has no masses, so each formula is a function.
 #[tactic(auto, unfolding(crate::specs::Gas::mass_part))]
 fn mass_part(i: usize, total: u64) -> u64
     requires { (i < 8) × (total ≡ M gas) }
@@ -191,7 +193,8 @@ fn volume_part(i: usize) -> u64
     fraction(i) * steps::ideal_calorific_value(1000000 * h, 15)
 }
 
-// The sums of the gas over the component table, h and s at 15 °C.
+// The sums of the gas over the component table, h and s at 15 °C. `sums_of` of properties takes an accepted record: one would be written
+// and read for it, and the sums could be refused.
 fn sums() -> Sums
     ensures superior { result.superior ≡ HmSuperior gas }
     ensures mass { result.mass ≡ M gas }
@@ -213,6 +216,7 @@ pub fn gas_totals() -> Totals
     let mut x = 0;
     let mut mass = 0;
     let mut volume = 0;
+    // One loop by place: as chains, three sums would go over the lines three times.
     for i in 0..8 {
         x += fraction(i);
         mass += mass_part(i, m);

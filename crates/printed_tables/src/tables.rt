@@ -12,7 +12,7 @@ use properties::quantities::MassCalorificValue;
 use properties::steps;
 use std::io;
 
-// The column of molar masses.
+// The column of molar masses, for which `components` lends no name.
 pub const M: usize = 0;
 
 // A number of the component table, without its sign; line and column are those of `components::entry`.

@@ -1,7 +1,7 @@
 -- The sums are in the range of each step.
 use Rattle.std.proofs.Common.{◌≡◌, arith}
 use Rattle.properties.specs.Chain.{D, T}
-use Rattle.printed_tables.specs.Text.{ideal_hm, ideal_h, ideal_d, ideal_rho, ideal_w}
+use Rattle.printed_tables.specs.Text.{ideal_h, ideal_d}
 use Rattle.printed_tables.proofs.GasLaws.{h_value, m_value, ideal_h_lem, ideal_d_lem}
 use Rattle.printed_tables.proofs.annex_d.values.Goals as goal
 

@@ -1,5 +1,5 @@
 -- No molar mass is 0, and no h is above 15 times the molar mass.
-use Rattle.std.proofs.Common.{◌+◌, ◌*◌, ◌<◌, ◌≤◌, arith}
+use Rattle.std.proofs.Common.{◌+◌, arith}
 use Rattle.components.proofs.Entries.{entry_by_mass}
 use Rattle.printed_tables.proofs.NumberLaws.{mass_above}
 use Rattle.printed_tables.proofs.tables.Table4.figure.Goals as goal
