@@ -44,7 +44,7 @@ fn values(totals: gas::Totals, p: Properties) -> Values
     ]
 }
 
-// The k-th figure.
+// The k-th figure, by its place as `Part` counts it.
 fn figure_of(k: usize) -> text::Figure
     requires { k < text_figures }
     ensures digits { result.digits ≡ slice_index (map (λ figure. figure.digits) FIGURES) k }

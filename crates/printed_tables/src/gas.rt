@@ -217,6 +217,7 @@ pub fn gas_totals() -> Totals
     let mut mass = 0;
     let mut volume = 0;
     // One loop by place: as chains, three sums would go over the lines three times.
+    #[tactic(auto, unfolding(crate::specs::Gas::sum_to))]
     for i in 0..8 {
         x += fraction(i);
         mass += mass_part(i, m);
