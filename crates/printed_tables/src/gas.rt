@@ -172,7 +172,7 @@ pub struct Totals {
 
 // A line's part of formula (7): its mass fraction, unit 10^-7, times its calorific value, unit 10^-5 MJ/kg. It shares no step with (9),
 // which has no masses, so each formula is a function.
-#[tactic(auto, unfolding(crate::specs::Gas::mass_part))]
+#[tactic(auto, using(crate::proofs::GasLaws::mass_part_high), unfolding(crate::specs::Gas::mass_part))]
 fn mass_part(i: usize, total: u64) -> u64
     requires { (i < 8) × (total ≡ M gas) }
     ensures { result ≡ mass_part i }
@@ -184,7 +184,7 @@ fn mass_part(i: usize, total: u64) -> u64
 }
 
 // A line's part of formula (9): its fraction times its calorific value.
-#[tactic(auto, unfolding(crate::specs::Gas::volume_part, properties::specs::Chain::D, properties::specs::Chain::T))]
+#[tactic(auto, using(crate::proofs::GasLaws::volume_part_high), unfolding(crate::specs::Gas::volume_part, properties::specs::Chain::D, properties::specs::Chain::T))]
 fn volume_part(i: usize) -> u64
     requires { i < 8 }
     ensures { result ≡ volume_part i }

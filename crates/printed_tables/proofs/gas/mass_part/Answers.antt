@@ -8,10 +8,6 @@ use Rattle.printed_tables.proofs.gas.mass_part.Goals as goal
 product : (c : goal.After-fraction) → c.fraction.result * c.number-m.result ≤ 150000000000
 product c = rw (c.fraction.ensures, c.number-m.ensures.value) (mass_high_lem _ c.requires.0)
 
-part-is : (c : goal.After-nearest) → c.nearest-fraction.result * c.nearest.result ≡ mass_part c.args.i
-unfolding mass_part
-part-is c = cc
-
 pub overflow_mul-fraction : goal.overflow_mul-fraction
 overflow_mul-fraction c = let h = product c in search rules
 
@@ -23,6 +19,3 @@ nearest-fraction-requires c = let m = m_value in search rules
 
 pub nearest-requires : goal.nearest-requires
 nearest-requires c = let l = line_in c.args.i (search rules) in let m = mass_above _ l.0 l.1 in search rules
-
-pub overflow_mul-result : goal.overflow_mul-result
-overflow_mul-result c = record { fits = omega (arith, part-is c, mass_part_high _ c.requires.0) }
