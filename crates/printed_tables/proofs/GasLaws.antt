@@ -75,6 +75,3 @@ product_high = at_most row_product 1000000000000000000 48 tt
 pub scaled_high : (k : ℕ) → k < 48 → row_product k * row_scale k ≤ 1000000000000000000
 unfolding component_table
 scaled_high = at_most (λ (k : ℕ). row_product k * row_scale k) 1000000000000000000 48 tt
-
-pub step_above : (k : ℕ) → k < 29 → 1 ≤ get_or text_steps k 0
-step_above = at_least (λ (k : ℕ). get_or text_steps k 0) 1 29 tt

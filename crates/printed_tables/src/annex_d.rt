@@ -20,7 +20,7 @@ pub type Values = [[u64; 6]; 5];
 
 // The values whose figures are printed, from the sums and the properties of the gas: h_m is the calorific value per kilogram, unit
 // 10 J/kg, and the ideal relative density has 1 for the compression factor of air.
-#[tactic(auto, unfolding(crate::specs::Text::ideal_hm, crate::specs::Text::ideal_h, crate::specs::Text::ideal_d, crate::specs::Text::ideal_rho, crate::specs::Text::ideal_w, properties::specs::Chain::D, properties::specs::Chain::T))]
+#[tactic(auto, using(crate::proofs::GasLaws::h_value, crate::proofs::GasLaws::m_value, crate::proofs::GasLaws::ideal_h_lem, crate::proofs::GasLaws::ideal_d_lem), unfolding(crate::specs::Text::ideal_hm, crate::specs::Text::ideal_h, crate::specs::Text::ideal_d, crate::specs::Text::ideal_rho, crate::specs::Text::ideal_w, properties::specs::Chain::D, properties::specs::Chain::T))]
 fn values(totals: gas::Totals, p: Properties) -> Values
     requires { totals ≡ gas_totals }
     ensures { result ≡ text_values (numbers p) }
@@ -49,6 +49,7 @@ fn figure_of(k: usize) -> text::Figure
     requires { k < text_figures }
     ensures digits { result.digits ≡ slice_index (map (λ figure. figure.digits) FIGURES) k }
     ensures scale { 0 < result.scale }
+    ensures step_above { 0 < result.step }
     ensures step { result.step ≡ slice_index text_steps k }
 {
     text::FIGURES[k]

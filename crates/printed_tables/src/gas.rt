@@ -150,6 +150,7 @@ fn weight(k: usize) -> u64
 }
 
 // The k-th figure as calculated.
+#[tactic(auto, using(crate::proofs::GasLaws::product_high, crate::proofs::GasLaws::scaled_high))]
 fn figure(k: usize) -> u64
     requires { k < 48 }
     ensures { result ≡ row_figure k }
@@ -172,7 +173,7 @@ pub struct Totals {
 
 // A line's part of formula (7): its mass fraction, unit 10^-7, times its calorific value, unit 10^-5 MJ/kg. It shares no step with (9),
 // which has no masses, so each formula is a function.
-#[tactic(auto, using(crate::proofs::GasLaws::mass_part_high), unfolding(crate::specs::Gas::mass_part))]
+#[tactic(auto, using(crate::proofs::GasLaws::mass_high_lem, crate::proofs::GasLaws::mass_part_high, crate::proofs::GasLaws::m_value, crate::proofs::GasLaws::line_in, crate::proofs::NumberLaws::mass_above), unfolding(crate::specs::Gas::mass_part))]
 fn mass_part(i: usize, total: u64) -> u64
     requires { (i < 8) × (total ≡ M gas) }
     ensures { result ≡ mass_part i }

@@ -16,6 +16,7 @@ use std::io;
 pub const M: usize = 0;
 
 // A number of the component table, without its sign; line and column are those of `components::entry`.
+#[tactic(auto, using(components::proofs::Entries::entry_below))]
 pub fn number(line: usize, column: usize) -> u64
     requires { (1 ≤ line) × (line ≤ 55) × (column < 12) }
     ensures value { result ≡ number_of line column }
@@ -41,6 +42,7 @@ impl Table4 {
     }
 
     // The figure of a line in a column.
+    #[tactic(auto, using(components::proofs::Entries::entry_by_mass, crate::proofs::NumberLaws::mass_above))]
     fn figure(line: usize, column: usize) -> u64
         requires { (1 ≤ line) × (line ≤ 55) × (column < 8) }
         ensures { result ≡ figure_per_kilogram line column }
