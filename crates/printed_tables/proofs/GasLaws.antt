@@ -7,7 +7,7 @@ use Rattle.properties.specs.Chain.{HmSuperior, M, S, D, T}
 use Rattle.printed_tables.specs.Figures.{number_of}
 use Rattle.printed_tables.specs.Gas.{gas, line_at, fraction_at, mass_part, volume_part, sum_to}
 use Rattle.printed_tables.specs.TableD1.{row_columns, row_weight, row_scale}
-use Rattle.printed_tables.specs.Text.{text_steps, ideal_h, ideal_d}
+use Rattle.printed_tables.specs.Text.{ideal_h, ideal_d}
 use Rattle.printed_tables.proofs.NumberLaws.{at_most, at_least}
 
 pub line_in : (k : ℕ) → k < 8 → (1 ≤ line_at k) × (line_at k ≤ 55)

@@ -1,5 +1,5 @@
 -- After i turns the sums are those of the first i parts.
-use Rattle.std.proofs.Common.{◌≡◌, refl, add-one, arith, to_z-of_z, w64, ℤ, to_z, of_z}
+use Rattle.std.proofs.Common.{◌≡◌, arith, to_z-of_z, w64, ℤ, to_z, of_z}
 use Rattle.std.proofs.lemmas.Int.{fits_signed_from_abs}
 use Rattle.components.specs.Composition.{total}
 use Rattle.properties.specs.Chain.{S}
