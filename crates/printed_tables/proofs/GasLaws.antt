@@ -64,7 +64,7 @@ module _ (f : ℕ → ℕ) (high : (k : ℕ) → k < 8 → f k ≤ 1000000000000
   pub more_fits : (i : ℕ) {n r : ℕ} → i < 8 → n ≡ sum_to i f → r ≡ f i → Fits w64 (n + r)
   more_fits i h e g = record { fits = omega (arith, high i h, sum_high i (omega arith)) }
 
--- the products of table D.1, and the steps of the text
+-- the products of table D.1
 abbrev pub row_product : ℕ → ℕ
 row_product k = row_weight k * number_of (line_at (k / 6)) (get_or row_columns (k % 6) 0)
 
