@@ -7,7 +7,7 @@ use Rattle.properties.specs.Chain.{HmSuperior, M, S, D, T}
 use Rattle.printed_tables.specs.Figures.{number_of}
 use Rattle.printed_tables.specs.Gas.{gas, line_at, fraction_at, mass_part, volume_part, sum_to}
 use Rattle.printed_tables.specs.TableD1.{row_columns, row_weight, row_scale}
-use Rattle.printed_tables.specs.Text.{text_steps, ideal_h, ideal_d}
+use Rattle.printed_tables.specs.Text.{ideal_h, ideal_d}
 use Rattle.printed_tables.proofs.NumberLaws.{at_most, at_least}
 
 pub line_in : (k : ℕ) → k < 8 → (1 ≤ line_at k) × (line_at k ≤ 55)
@@ -64,7 +64,7 @@ module _ (f : ℕ → ℕ) (high : (k : ℕ) → k < 8 → f k ≤ 1000000000000
   pub more_fits : (i : ℕ) {n r : ℕ} → i < 8 → n ≡ sum_to i f → r ≡ f i → Fits w64 (n + r)
   more_fits i h e g = record { fits = omega (arith, high i h, sum_high i (omega arith)) }
 
--- the products of table D.1, and the steps of the text
+-- the products of table D.1
 abbrev pub row_product : ℕ → ℕ
 row_product k = row_weight k * number_of (line_at (k / 6)) (get_or row_columns (k % 6) 0)
 
@@ -75,6 +75,3 @@ product_high = at_most row_product 1000000000000000000 48 tt
 pub scaled_high : (k : ℕ) → k < 48 → row_product k * row_scale k ≤ 1000000000000000000
 unfolding component_table
 scaled_high = at_most (λ (k : ℕ). row_product k * row_scale k) 1000000000000000000 48 tt
-
-pub step_above : (k : ℕ) → k < 29 → 1 ≤ get_or text_steps k 0
-step_above = at_least (λ (k : ℕ). get_or text_steps k 0) 1 29 tt

@@ -1,8 +1,7 @@
 -- Bounds that compute, and bounds of a line's numbers.
-use Rattle.std.proofs.Common.{◌≡◌, ℕ, ◌-◌, ◌*◌, ◌<◌, ◌≤◌, T, leb, [], get_or, pos, nat_abs, mul-le-mul, arith, leb→le, w64, Fits}
+use Rattle.std.proofs.Common.{ℕ, ◌-◌, ◌<◌, ◌≤◌, T, leb, [], get_or, pos, nat_abs, arith, leb→le}
 use Rattle.components.specs.Table.{component_table, molar_mass}
 use Rattle.components.proofs.Every.{every, at}
-use Rattle.components.proofs.Entries.{largest, entry_below}
 use Rattle.printed_tables.specs.Figures.{number_of}
 
 module _ (f : ℕ → ℕ) (bound n : ℕ) where
@@ -16,10 +15,3 @@ module _ (f : ℕ → ℕ) (bound n : ℕ) where
 pub mass_above : (l : ℕ) → 1 ≤ l → l ≤ 55 → 20159 ≤ number_of l molar_mass
 unfolding component_table
 mass_above l lo hi = at_least (λ (k : ℕ). nat_abs (get_or (get_or component_table k []) molar_mass (pos 0))) 20159 55 tt (l - 1) (omega arith)
-
--- a number of a line times at most a million fits 64 bits
-pub product_high : (l c : ℕ) {x n : ℕ} → x ≤ 1000000 → n ≡ number_of l c → x * n ≤ 1000000 * largest
-product_high l c {x} {n} h e = mul-le-mul {m₂ = largest} h (omega (arith, e, entry_below l c))
-
-pub product_fits : (l c : ℕ) {x n : ℕ} → x ≤ 1000000 → n ≡ number_of l c → Fits w64 (x * n)
-product_fits l c h e = record { fits = omega (arith, product_high l c h e) }

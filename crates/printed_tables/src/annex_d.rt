@@ -15,11 +15,12 @@ use properties::{Properties, steps};
 use records::{Pair, Refusal};
 use std::io;
 
-// The values of the figures of the text, six to a row.
+// The values of the figures of the text, six to a row, as in specs/Text: one list of thirty is no plainer.
 pub type Values = [[u64; 6]; 5];
 
 // The values whose figures are printed, from the sums and the properties of the gas: h_m is the calorific value per kilogram, unit
 // 10 J/kg, and the ideal relative density has 1 for the compression factor of air.
+#[tactic(auto, using(crate::proofs::GasLaws::h_value, crate::proofs::GasLaws::m_value, crate::proofs::GasLaws::ideal_h_lem, crate::proofs::GasLaws::ideal_d_lem), unfolding(crate::specs::Text::ideal_hm, crate::specs::Text::ideal_h, crate::specs::Text::ideal_d, crate::specs::Text::ideal_rho, crate::specs::Text::ideal_w, properties::specs::Chain::D, properties::specs::Chain::T))]
 fn values(totals: gas::Totals, p: Properties) -> Values
     requires { totals ≡ gas_totals }
     ensures { result ≡ text_values (numbers p) }
@@ -43,11 +44,12 @@ fn values(totals: gas::Totals, p: Properties) -> Values
     ]
 }
 
-// The k-th figure.
+// The k-th figure, by its place as `Part` counts it.
 fn figure_of(k: usize) -> text::Figure
     requires { k < text_figures }
     ensures digits { result.digits ≡ slice_index (map (λ figure. figure.digits) FIGURES) k }
     ensures scale { 0 < result.scale }
+    ensures step_above { 0 < result.step }
     ensures step { result.step ≡ slice_index text_steps k }
 {
     text::FIGURES[k]
@@ -110,6 +112,7 @@ fn properties() -> Result<Properties, Refusal> {
         combustion: 15,
         metering: 15,
     };
+    // An array takes no computed length: 48 is `record_length(8)`.
     let mut record = [0u8; 48];
     records::write(pair, &gas::LINES, &gas::FRACTIONS, &mut record)?;
     properties::properties_of(&record)

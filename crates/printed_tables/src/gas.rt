@@ -1,5 +1,5 @@
 // The gas of annex D at 15/15: table D.1, its sums, and formulas (7) and (9).
-ghost use Rattle.std.specs.Prelude.{◌≡◌, ◌%◌, ◌<◌, slice_index, refl};
+ghost use Rattle.std.specs.Prelude.{◌≡◌, ◌%◌, ◌<◌, ◌≤◌, slice_index, refl};
 ghost use Rattle.properties.specs.Chain.{HmSuperior, M, S};
 ghost use Rattle.printed_tables.specs.Figures.{number_of};
 ghost use Rattle.printed_tables.specs.Gas.{gas, line_at, fraction_at, mass_part, volume_part, gas_totals};
@@ -60,7 +60,7 @@ const COLUMNS: [Column; 6] = [
 // Their names, apart from the numbers: no proof names a constant in which text stands.
 const NAMES: [&str; 6] = ["M", "H", "s", "x M", "x H", "x s"];
 
-// The column of the k-th figure.
+// The column of the k-th figure. Here a figure is its place in the list, as `Part` counts it: a type of it would be this number.
 fn column_of(k: usize) -> Column
     ensures column { result.column ≡ slice_index row_columns (k % 6) }
     ensures scale { result.scale ≡ slice_index row_scales (k % 6) }
@@ -69,10 +69,12 @@ fn column_of(k: usize) -> Column
     COLUMNS[k % 6]
 }
 
-// The i-th line's number in a column of the component table, without its sign.
+// The i-th line's number in a column of the component table, without its sign: `tables::number` where the line stands in a list. By its place,
+// as specs/Gas has it: a type of places would be this number too.
 fn number(i: usize, column: usize) -> u64
     requires { (i < 8) × (column < 12) }
-    ensures { result ≡ number_of (line_at i) column }
+    ensures value { result ≡ number_of (line_at i) column }
+    ensures small { result ≤ 10000000 }
 {
     tables::number(usize::from(LINES[i]), column)
 }
@@ -148,6 +150,7 @@ fn weight(k: usize) -> u64
 }
 
 // The k-th figure as calculated.
+#[tactic(auto, using(crate::proofs::GasLaws::product_high, crate::proofs::GasLaws::scaled_high))]
 fn figure(k: usize) -> u64
     requires { k < 48 }
     ensures { result ≡ row_figure k }
@@ -168,34 +171,37 @@ pub struct Totals {
     pub volume: u64,
 }
 
-// A line's part of formula (7): its mass fraction, unit 10^-7, times its calorific value, unit 10^-5 MJ/kg.
+// A line's part of formula (7): its mass fraction, unit 10^-7, times its calorific value, unit 10^-5 MJ/kg. It shares no step with (9),
+// which has no masses, so each formula is a function.
+#[tactic(auto, using(crate::proofs::GasLaws::mass_high_lem, crate::proofs::GasLaws::mass_part_high, crate::proofs::GasLaws::m_value, crate::proofs::GasLaws::line_in, crate::proofs::NumberLaws::mass_above), unfolding(crate::specs::Gas::mass_part))]
 fn mass_part(i: usize, total: u64) -> u64
     requires { (i < 8) × (total ≡ M gas) }
     ensures { result ≡ mass_part i }
 {
     let m = number(i, tables::M);
-    let h = number(i, tables::H_15);
+    let h = number(i, Combustion::At15.superior());
     let fraction = rounding::nearest(fraction(i) * m * 10000000, total);
     fraction * rounding::nearest(1000000 * h, m)
 }
 
 // A line's part of formula (9): its fraction times its calorific value.
+#[tactic(auto, using(crate::proofs::GasLaws::volume_part_high), unfolding(crate::specs::Gas::volume_part, properties::specs::Chain::D, properties::specs::Chain::T))]
 fn volume_part(i: usize) -> u64
     requires { i < 8 }
     ensures { result ≡ volume_part i }
 {
-    let h = number(i, tables::H_15);
+    let h = number(i, Combustion::At15.superior());
     fraction(i) * steps::ideal_calorific_value(1000000 * h, 15)
 }
 
-// The sums of the gas over the component table, h and s at 15 °C.
+// The sums of the gas over the component table, h and s at 15 °C. `sums_of` of properties takes an accepted record: one would be written
+// and read for it, and the sums could be refused.
 fn sums() -> Sums
     ensures superior { result.superior ≡ HmSuperior gas }
     ensures mass { result.mass ≡ M gas }
     ensures summation { result.summation ≡ S gas }
 {
     let mut sums = Sums::default();
-    // A record's entries are read from its bytes, these from two lists: what both loops share is `Sums::add`.
     for (line, fraction) in LINES.iter().zip(&FRACTIONS) {
         sums.add(*line, *fraction, Combustion::At15, Metering::At15);
     }
@@ -211,7 +217,8 @@ pub fn gas_totals() -> Totals
     let mut x = 0;
     let mut mass = 0;
     let mut volume = 0;
-    // The parts are functions of i: three folds over the range are no plainer.
+    // One loop by place: as chains, three sums would go over the lines three times.
+    #[tactic(auto, unfolding(crate::specs::Gas::sum_to))]
     for i in 0..8 {
         x += fraction(i);
         mass += mass_part(i, m);

@@ -59,6 +59,7 @@ impl Counts {
     }
 
     // The counts with one figure more.
+    #[tactic(auto, unfolding(crate::specs::Counts::counted))]
     pub fn with(self, printed: u64, calculated: u64) -> Self
         ensures { result ≡ counted self printed calculated }
     {
@@ -83,6 +84,7 @@ impl Display for Counts {
 }
 
 // The counts with the figures of a part more.
+#[tactic(auto, unfolding(crate::specs::Counts::counts_of))]
 pub fn count<P: Part>(c: Counts, part: &P) -> Counts
     ensures { result ≡ counts_of c P.printed (P.calculated part.now) P.figures }
 {

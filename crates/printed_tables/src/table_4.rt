@@ -1,5 +1,6 @@
 // Table 4 of source document 002, the ideal calorific value per kilogram, MJ/kg: the lines 1 to 48, a component a row. The columns are
 // superior and inferior at 25, 20, 15 and 0 °C. A figure stands as its digits, without the decimal sign.
+// Rows end to end: `Part` counts figures through, and would flatten an array of rows at each look-up.
 pub const FIGURES: [u32; 384] = [
     55516, 50029, 55545, 50032, 55574, 50035, 55662, 50043, // 1 methane
     5190, 4751, 5193, 4751, 5195, 4752, 5202, 4753, // 2 ethane

@@ -1,5 +1,6 @@
 // Table 5 of source document 002, the ideal calorific value per cubic metre, MJ/m³: the lines 1 to 48, a component a row. The columns are
 // superior and inferior at 15/15, 0/0, 15/0, 25/0, 20/20 and 25/20. A figure stands as its digits, without the decimal sign.
+// Rows end to end: `Part` counts figures through, and would flatten an array of rows at each look-up.
 pub const FIGURES: [u32; 576] = [
     37706, 33948, 39840, 35818, 39777, 35812, 39735, 35808, 37044, 33367, 37024, 33365, // 1 methane
     6607, 6043, 6979, 6376, 6969, 6375, 6963, 6374, 6491, 5939, 6488, 5939, // 2 ethane

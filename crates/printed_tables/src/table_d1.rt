@@ -1,5 +1,6 @@
 // Table D.1 of source document 002: the lines of the example gas, a component a row, with M, H, s, x M, x H and x s. A figure stands as its
 // digits, without the decimal sign.
+// Rows end to end: `Part` counts figures through, and would flatten an array of rows at each look-up.
 pub const FIGURES: [u32; 48] = [
     16043, 89156, 447, 148350, 82443, 4133, // 1 methane
     30070, 156214, 922, 10525, 5467, 323, // 2 ethane

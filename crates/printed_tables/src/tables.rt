@@ -1,25 +1,26 @@
 // Tables 4 and 5: the ideal calorific value per kilogram and per cubic metre of the lines 1 to 48, superior and inferior by turns.
 ghost use Rattle.std.specs.Prelude.{◌≡◌, ◌/◌, ◌<◌, ◌≤◌, slice_index, refl};
+ghost use Rattle.components.specs.Table.{superior};
+ghost use Rattle.components.specs.Temperatures.{heat_place};
 ghost use Rattle.printed_tables.specs.Figures.{number_of, scale_of, figure_per_kilogram, superiors, meterings, figure_per_cubic_metre};
 
 use super::parts::{Counts, Part, count};
 use super::places::{Place, print_differences};
 use super::{table_4, table_5};
+use components::Combustion;
 use properties::quantities::MassCalorificValue;
 use properties::steps;
 use std::io;
 
-// The columns of the component table: m, and superior h at 25 and 15 °C.
+// The column of molar masses, for which `components` lends no name.
 pub const M: usize = 0;
 
-pub const H_25: usize = 4;
-
-pub const H_15: usize = 8;
-
-// A number of the component table, without its sign.
+// A number of the component table, without its sign; line and column are those of `components::entry`.
+#[tactic(auto, using(components::proofs::Entries::entry_below))]
 pub fn number(line: usize, column: usize) -> u64
     requires { (1 ≤ line) × (line ≤ 55) × (column < 12) }
-    ensures { result ≡ number_of line column }
+    ensures value { result ≡ number_of line column }
+    ensures small { result ≤ 10000000 }
 {
     u64::from(components::entry(line as u8, column).unsigned_abs())
 }
@@ -41,11 +42,12 @@ impl Table4 {
     }
 
     // The figure of a line in a column.
+    #[tactic(auto, using(components::proofs::Entries::entry_by_mass, crate::proofs::NumberLaws::mass_above))]
     fn figure(line: usize, column: usize) -> u64
         requires { (1 ≤ line) × (line ≤ 55) × (column < 8) }
         ensures { result ≡ figure_per_kilogram line column }
     {
-        let h = number(line, H_25 + column);
+        let h = number(line, Combustion::At25.superior() + column);
         let m = number(line, M);
         let value = steps::per_kilogram(1000000 * h, 1000000 * m).value();
         rounding::nearest(value * Self::scale_of_line(line), MassCalorificValue::SCALE)
@@ -91,10 +93,10 @@ impl Part for Table4 {
     ghost whole = { refl };
 }
 
-// A pair of conditions of table 5: the column of superior h, and the metering temperature, °C.
+// A pair of conditions of table 5, the metering temperature in °C.
 #[derive(Clone, Copy)]
 struct Conditions {
-    superior: usize,
+    combustion: Combustion,
     metering: u8,
 }
 
@@ -104,27 +106,27 @@ pub struct Table5;
 impl Table5 {
     const CONDITIONS: [Conditions; 6] = [
         Conditions {
-            superior: 8,
+            combustion: Combustion::At15,
             metering: 15,
         },
         Conditions {
-            superior: 10,
+            combustion: Combustion::At0,
             metering: 0,
         },
         Conditions {
-            superior: 8,
+            combustion: Combustion::At15,
             metering: 0,
         },
         Conditions {
-            superior: 4,
+            combustion: Combustion::At25,
             metering: 0,
         },
         Conditions {
-            superior: 6,
+            combustion: Combustion::At20,
             metering: 20,
         },
         Conditions {
-            superior: 4,
+            combustion: Combustion::At25,
             metering: 20,
         },
     ];
@@ -141,7 +143,7 @@ impl Table5 {
 
     fn conditions_of(column: usize) -> Conditions
         requires { column < 12 }
-        ensures superior { result.superior ≡ slice_index superiors (column / 2) }
+        ensures superior { superior (heat_place result.combustion) ≡ slice_index superiors (column / 2) }
         ensures metering { result.metering ≡ slice_index meterings (column / 2) }
     {
         Self::CONDITIONS[column / 2]
@@ -153,7 +155,7 @@ impl Table5 {
         ensures { result ≡ figure_per_cubic_metre line column }
     {
         let conditions = Self::conditions_of(column);
-        let h = number(line, conditions.superior + column % 2);
+        let h = number(line, conditions.combustion.superior() + column % 2);
         let value = steps::ideal_calorific_value(1000000 * h, conditions.metering);
         rounding::nearest(value * Self::scale_of_line(line), 1000000)
     }

@@ -19,28 +19,31 @@ fn temperature(stream: usize) -> u8
     if stream % 2 == 0 { 15 } else { 0 }
 }
 
-// The record of methane alone at t/t. `records::write` would need a buffer and an answer for its refusal; these are its 13 bytes.
-fn methane(t: u8) -> [u8; 13]
-    ensures { result ≡ methane_at t }
+// The record of methane alone at a stream's temperature, both of combustion and of metering. `records::write` would need a buffer and an
+// answer for its refusal; these are its 13 bytes.
+#[tactic(auto, unfolding(records::specs::Format::entries_bytes))]
+fn methane(stream: usize) -> [u8; 13]
+    ensures { result ≡ methane_at (temperature_of stream) }
 {
+    let t = temperature(stream);
     [b'G', b'C', b'R', 1, 0, t, t, 1, 1, 0x40, 0x42, 0x0F, 0]
 }
 
-// An analysis on each stream.
+// An analysis on each stream. A `for`: the calls change one meter in place, which a fold would hand on from turn to turn.
 fn analyse(meter: &mut Meter)
     ensures { meter.new ≡ analysed_to 16 meter.old }
 {
-    // A loop around one call that takes the stream: a fold with a closure is no plainer.
+    #[tactic(auto, unfolding(crate::specs::Calls::analysed_to))]
     for stream in 0..16 {
-        let _ = meter.analysis(stream, &methane(temperature(stream)));
+        let _ = meter.analysis(stream, &methane(stream));
     }
 }
 
-// The metering calls, from stream to stream.
+// The metering calls, from stream to stream, by a `for` as in `analyse`.
 fn take_volumes(meter: &mut Meter)
     ensures { meter.new ≡ metered_to 10000000 meter.old }
 {
-    // The same: the call takes i.
+    #[tactic(auto, unfolding(crate::specs::Calls::metered_to))]
     for i in 0..10000000 {
         let _ = meter.metering((i % 16) as usize, i % 1000);
     }

@@ -22,11 +22,11 @@ use std::alloc::Allocator;
 use std::io;
 use std::io::{Input, Read};
 
-// A stream takes 99,999 times 10,000,000 dm³.
+// A stream takes 99,999 times 10,000,000 dm³. A `for`: the calls change one meter in place, which a fold would hand on.
 fn fill(meter: &mut Meter, stream: usize)
     ensures { meter.new ≡ filled_by 99999 meter.old stream }
 {
-    // A loop around one call: a fold with a closure is no plainer. The invariant names i.
+    #[tactic(auto, unfolding(crate::specs::Calls::filled_by))]
     for i in 0..99999u64 {
         let _ = meter.metering(stream, 10000000);
     }

@@ -1,4 +1,4 @@
--- A field of the k-th figure is the k-th of the list of that field, and no scale is 0.
+-- A field of the k-th figure is the k-th of the list of that field, and no scale and no step is 0.
 use Rattle.std.proofs.Common.{ℕ, get_or, sym}
 use Rattle.std.proofs.Math.ListN.{get_or-map}
 use Rattle.printed_tables.specs.declared.text.Figure.{Figure}
@@ -13,5 +13,6 @@ pub returns : goal.returns
 returns c = record {
   digits = sym (get_or-map (λ (f : Figure). f.digits) FIGURES c.args.k blank);
   scale = at_least (λ (k : ℕ). (get_or FIGURES k blank).scale) 1 29 tt c.args.k c.requires;
+  step_above = at_least (λ (k : ℕ). (get_or FIGURES k blank).step) 1 29 tt c.args.k c.requires;
   step = sym (get_or-map (λ (f : Figure). f.step) FIGURES c.args.k blank);
 }

@@ -1,5 +1,5 @@
 -- After i turns the sums are those of the first i parts.
-use Rattle.std.proofs.Common.{◌≡◌, refl, add-one, arith, to_z-of_z, w64, ℤ, to_z, of_z}
+use Rattle.std.proofs.Common.{◌≡◌, arith, to_z-of_z, w64, ℤ, to_z, of_z}
 use Rattle.std.proofs.lemmas.Int.{fits_signed_from_abs}
 use Rattle.components.specs.Composition.{total}
 use Rattle.properties.specs.Chain.{S}
@@ -10,10 +10,6 @@ use Rattle.printed_tables.proofs.gas.gas_totals.Goals as goal
 s_read : (n : ℤ) → n ≡ S gas → to_z w64 (of_z w64 n) ≡ S gas
 s_read n e = rw e (to_z-of_z (fits_signed_from_abs w64 (S gas) (omega (arith, s_value))))
 
-pub loop-i-init : goal.loop-i-init
-unfolding sum_to
-loop-i-init c = (refl, refl, refl)
-
 pub overflow_add-x : goal.overflow_add-x
 overflow_add-x c = more_fits fraction_at (λ k h. omega (arith, fraction_high k h)) _ c.loop-i-test.true c.loop-i.invariant.0 c.fraction-x.ensures
 
@@ -22,10 +18,6 @@ overflow_add-mass c = more_fits mass_part mass_part_high _ c.loop-i-test.true c.
 
 pub overflow_add-volume : goal.overflow_add-volume
 overflow_add-volume c = more_fits volume_part volume_part_high _ c.loop-i-test.true c.loop-i.invariant.2 c.volume_part-volume.ensures
-
-pub loop-i-preserved : goal.loop-i-preserved
-unfolding sum_to
-loop-i-preserved c = (rw add-one (cc), rw add-one (cc), rw add-one (cc))
 
 pub returns : goal.returns
 unfolding sum_to total
