@@ -5,7 +5,7 @@ use Rattle.properties.specs.Bounds.{compression_low, calorific_low, density_low,
 use Rattle.properties.specs.Quantities.{compression_bound, calorific_bound, density_bound, relative_bound, wobbe_bound}
 use Rattle.meter.specs.declared.Register.{Register}
 
--- true exactly where something holds
+-- true exactly where something holds; a record beside std's `Decides`, so that a proof names each half
 pub record Tells (answer : Bool) (Something : Type 0) : Type 0 where
   pub only : answer ≡ true → Something
   pub always : Something → answer ≡ true

@@ -46,7 +46,7 @@ fn pair_in(row: &Row) -> Option<Pair>
     }
 }
 
-// Whether a value lies between two others, both included.
+// Whether a value lies between two others, both included. A function of its own: the six ranges below, written out, did not close.
 fn between(floor: u64, value: u64, ceiling: u64) -> bool
     ensures { result ≡ between floor value ceiling }
 {
@@ -154,7 +154,7 @@ impl Measure {
     }
 }
 
-// Whether a register holds no more than another, both with rests below one whole.
+// Whether a register holds no more than another, both with rests below one whole: the order of registers, said by a definition.
 fn at_most(register: Register, most: Register) -> bool
     ensures { result ≡ at_most register most }
 {

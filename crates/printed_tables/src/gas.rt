@@ -171,8 +171,8 @@ pub struct Totals {
     pub volume: u64,
 }
 
-// A line's part of formula (7): its mass fraction, unit 10^-7, times its calorific value, unit 10^-5 MJ/kg. It shares no step with (9),
-// which has no masses, so each formula is a function.
+// A line's part of formula (7): its mass fraction, unit 10^-7, times its calorific value, unit 10^-5 MJ/kg. It shares no sum or division
+// with (9), which has no masses, so each formula is a function.
 #[tactic(auto, using(crate::proofs::GasLaws::mass_high_lem, crate::proofs::GasLaws::mass_part_high, crate::proofs::GasLaws::m_value, crate::proofs::GasLaws::line_in, crate::proofs::NumberLaws::mass_above), unfolding(crate::specs::Gas::mass_part))]
 fn mass_part(i: usize, total: u64) -> u64
     requires { (i < 8) × (total ≡ M gas) }

@@ -132,3 +132,7 @@ module _ (d : ℕ) (d_low : relative_low ≤ d) (d_high : d ≤ relative_bound) 
 -- a value per kilogram
 pub per_kilogram_high : {Hm M : ℕ} → 0 < M → Hm ≤ heat_by_mass * M → per_kilogram Hm M ≤ mass_calorific_bound
 per_kilogram_high {Hm} {M} p h = at_most (near_half (Hm * 1000000) M p) (omega arith)
+
+-- what `Quantity::real` asks, of an ideal value that is at most `most` and a compression factor that is not below that of an accepted record
+pub real_fits : (most b : ℕ) {ideal z : ℕ} → ideal ≤ most → compression_low ≤ z → 10 ^ 9 * most ≤ compression_low * b → (0 < z) × (ideal * 10 ^ 9 ≤ b * z)
+real_fits most b h low room = (omega arith, omega (arith, mul-le-mul_left b low))

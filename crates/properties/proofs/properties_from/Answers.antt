@@ -1,7 +1,6 @@
 -- Each step gives its letter of the chain, and the sums keep each step within what it asks.
 use mathlib.Core.Path.{◌≡◌}
-use Prim.Native.Nat.{ℕ, ◌*◌, ◌^◌, ◌≤◌, ◌<◌}
-use native.Mathlib.Nat.{mul-le-mul_left}
+use Prim.Native.Nat.{ℕ, ◌^◌, ◌≤◌}
 use native.Mathlib.Omega.{arith}
 use lib.IntN.{ℤ}
 use mir.Syntax.{w64}
@@ -11,7 +10,7 @@ use Rattle.properties.specs.Bounds.{air_high, compression_low, ideal_calorific_h
 use Rattle.properties.specs.Quantities.{calorific_bound, density_bound, relative_bound}
 use Rattle.properties.specs.Chain.{temperature, divisor, air_factor, compression, tenth, ideal_calorific, ideal_density, ideal_relative, T, D, S9, Z, Hs, Hi, rho, A, G, d, r, W}
 use Rattle.properties.specs.Accepted.{Summed}
-use Rattle.properties.proofs.StepBounds.{compression_high, divisor_low_lem, air_low_lem, air_high_lem, ideal_calorific_high_lem, ideal_density_high, ideal_relative_high_lem, ideal_relative_low, real_high, real_low}
+use Rattle.properties.proofs.StepBounds.{compression_high, divisor_low_lem, air_low_lem, air_high_lem, ideal_calorific_high_lem, ideal_density_high, ideal_relative_high_lem, ideal_relative_low, real_high, real_low, real_fits}
 use Rattle.properties.proofs.Gas.{superior_bounds, inferior_bounds, mass_low_lem, mass_high_lem, summation_high_lem, summation_word, Z-low}
 use Rattle.properties.proofs.properties_from.Goals as goal
 
@@ -51,10 +50,6 @@ module _ {superior inferior mass metering : ℕ} {summation : ℤ} (q : Summed s
   relative_least : {air ideal : ℕ} → air ≡ air_factor metering → ideal ≡ ideal_relative mass air → relative_low ≤ ideal
   relative_least {air} a e = rw e (ideal_relative_low mass air mass_least (rw a (air_low_lem metering)))
 
--- an ideal value that is at most `most` has a real value that is at most b
-fits : (most b : ℕ) {ideal z : ℕ} → ideal ≤ most → compression_low ≤ z → 10 ^ 9 * most ≤ compression_low * b → (0 < z) × (ideal * 10 ^ 9 ≤ b * z)
-fits most b h low room = (omega arith, omega (arith, mul-le-mul_left b low))
-
 pub compression_factor-z-requires : goal.compression_factor-z-requires
 compression_factor-z-requires c = let q = c.requires in rw (word q, q.sums.summation_is) (summation_high_lem q.gas q.acceptable)
 
@@ -73,22 +68,22 @@ ideal_relative_density-requires c = (omega (arith, mass_most c.requires), air_mo
 pub real-hs-requires : goal.real-hs-requires
 real-hs-requires c =
     let ideal = heat_ideal c.requires (superior_most c.requires) c.ideal_calorific_value.ensures in
-    (omega arith, fits ideal_calorific_high calorific_bound ideal (compression_least c.requires c.compression_factor-z.ensures) (omega arith))
+    (omega arith, real_fits ideal_calorific_high calorific_bound ideal (compression_least c.requires c.compression_factor-z.ensures) (omega arith))
 
 pub real-hi-requires : goal.real-hi-requires
 real-hi-requires c =
     let ideal = heat_ideal c.requires (inferior_most c.requires) c.ideal_calorific_value-2.ensures in
-    (omega arith, fits ideal_calorific_high calorific_bound ideal (compression_least c.requires c.compression_factor-z.ensures) (omega arith))
+    (omega arith, real_fits ideal_calorific_high calorific_bound ideal (compression_least c.requires c.compression_factor-z.ensures) (omega arith))
 
 pub real-rho-requires : goal.real-rho-requires
 real-rho-requires c =
     let ideal = mass_ideal c.requires c.ideal_density.ensures in
-    (omega arith, fits ideal_high density_bound ideal (compression_least c.requires c.compression_factor-z.ensures) (omega arith))
+    (omega arith, real_fits ideal_high density_bound ideal (compression_least c.requires c.compression_factor-z.ensures) (omega arith))
 
 pub real-d-requires : goal.real-d-requires
 real-d-requires c =
     let ideal = relative_ideal c.requires c.air_factor-air.ensures c.ideal_relative_density.ensures in
-    (omega arith, fits ideal_relative_high relative_bound ideal (compression_least c.requires c.compression_factor-z.ensures) (omega arith))
+    (omega arith, real_fits ideal_relative_high relative_bound ideal (compression_least c.requires c.compression_factor-z.ensures) (omega arith))
 
 pub wobbe_index-w-requires : goal.wobbe_index-w-requires
 wobbe_index-w-requires c =
