@@ -1,4 +1,4 @@
--- The tests of a pair, of properties, of a gas, and of a register at a volume.
+-- The tests of properties, of a gas, and of a register at a volume.
 use mathlib.Core.Path.{◌≡◌, refl, sym, ap, ◌∙◌}
 use mathlib.Core.Bool.{Bool, true, false, ◌&&◌, ◌||◌}
 use Prim.Native.Nat.{ℕ, ◌+◌, ◌*◌, ◌/◌, ◌%◌, ◌≤◌, ◌<◌}
@@ -9,7 +9,7 @@ use lib.Dec.{eqb, leb, ltb}
 use Rattle.records.specs.Conditions.{permitted}
 use Rattle.std.proofs.lemmas.Bool.{and_parts}
 use Rattle.properties.specs.Chain.{Six, wobbe, root_of}
-use Rattle.properties.specs.Bounds.{Floored, Proper, air_distance, by_air, DensityByAir}
+use Rattle.properties.specs.Bounds.{Floored, Proper, DensityByAir}
 use Rattle.properties.specs.Quantities.{Bounded}
 use Rattle.properties.specs.Answers.{numbers}
 use Rattle.meter.specs.declared.Gas.{Gas}
@@ -61,19 +61,6 @@ properties_hold p within =
       always = λ q. rw (le-leb _ _ q.order, eq-eqb _ _ q.index);
     }
 
--- rho beside d times the density of air
-pub density_holds : (m : ℕ) (p : Six) → Tells (leb p.rho (by_air m p.d + air_distance) && leb (by_air m p.d) (p.rho + air_distance)) (DensityByAir m p)
-density_holds m p =
-    let v = by_air m p.d in
-    record {
-      only = λ e.
-          let z = and_parts (leb p.rho (v + air_distance)) (leb v (p.rho + air_distance)) e in
-          let low = leb-true p.rho (v + air_distance) z.0 in
-          let high = leb-true v (p.rho + air_distance) z.1 in
-          record { proper = (omega arith, omega arith); below = omega arith; above = omega arith };
-      always = λ w. rw (le-leb p.rho (v + air_distance) (omega (arith, w.below)), le-leb v (p.rho + air_distance) (omega (arith, w.above)));
-    }
-
 -- a gas, from the test of its density
 pub gas_holds : (gas : Gas) {b : Bool} → permitted gas.pair.combustion gas.pair.metering ≡ true → Proper (numbers gas.properties) →
     Tells b (DensityByAir gas.pair.metering (numbers gas.properties)) → Tells b (SoundGas gas)
@@ -93,12 +80,6 @@ module _ (u v x : ℕ) (unit : RegisterUnit u) where
 
   unit_is : share * 1000000 ≡ u
   unit_is = omega (arith, unit.parts)
-
-  share_some : 0 < share
-  share_some = omega (arith, unit_is, unit.some)
-
-  pub before_below : before.rest < u
-  before_below = omega (arith, mod-lt high share_some, unit_is)
 
   -- both digits together, in the unit of the rest
   digits : amount_in u before + v % 1000000 * x ≡ amount_in u nothing_booked + v * x
