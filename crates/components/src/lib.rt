@@ -11,7 +11,8 @@ mod temperatures;
 
 pub use temperatures::{Combustion, Metering};
 
-const MOLAR_MASS: usize = 0;
+// The column of the molar mass.
+pub const MOLAR_MASS: usize = 0;
 
 // The number of a line, counted from 1, in a column, counted from 0, for whoever goes over the table.
 // A line is the standard's number of a component, and a record's byte of it, from which an enum of 55 names would have to be made.
@@ -49,7 +50,7 @@ pub struct Sums {
 
 impl Sums {
     // One more entry: h at a combustion temperature, and s at a metering temperature.
-    // As fields of Sums they would ask for a clause that they stay.
+    // Both come with each entry: held in `Sums`, every caller would have to be told that an entry leaves them as they were.
     pub fn add(&mut self, line: u8, fraction: u32, combustion: Combustion, metering: Metering)
         requires in_table { (1 ≤ line) × (line ≤ 55) }
         requires room { (self.old.superior < 2 ^ 62) × (self.old.inferior < 2 ^ 62) × (self.old.mass < 2 ^ 62) × (nat_abs self.old.summation < 2 ^ 62) }

@@ -46,7 +46,7 @@ fn pair_in(row: &Row) -> Option<Pair>
     }
 }
 
-// Whether a value lies between two others, both included. A function of its own: the six ranges below, written out, did not close.
+// Whether a value lies between two others, both included. A function of its own: written out, the six ranges below do not close.
 fn between(floor: u64, value: u64, ceiling: u64) -> bool
     ensures { result ≡ between floor value ceiling }
 {

@@ -99,8 +99,8 @@ pub fn check_stream(stream: usize) -> Result<(), Refusal>
 }
 
 impl Register {
-    // The register with volume × value more, in units of its rest, `unit` of which make one whole. What it asks is of the numbers together:
-    // lent_meter makes registers of any words.
+    // The register with volume × value more, in units of its rest, `unit` of which make one whole. What it asks
+    // stands here and in no type: lent_meter makes registers of any words.
     pub fn booked(self, unit: u64, volume: u64, value: u64) -> Register
         requires register { (self.rest < unit) × (unit < 2 ^ 62) × (self.whole < 2 ^ 63) }
         requires factors { (volume ≤ most_volume) × (value < 2 ^ 32) }
@@ -212,7 +212,7 @@ impl Meter {
         }
     }
 
-    // The properties of a record come into force on a stream. By an index: what `get_mut` hands out was tried, and two goals stayed open.
+    // The properties of a record come into force on a stream. By an index: with `get_mut` two goals stay open.
     pub fn analysis(&mut self, stream: usize, bytes: &[u8]) -> Result<(), Refusal>
         ensures { Gives (analysis_of self.old stream bytes.now) self.old result self.new }
     {

@@ -178,7 +178,7 @@ fn mass_part(i: usize, total: u64) -> u64
     requires { (i < 8) × (total ≡ M gas) }
     ensures { result ≡ mass_part i }
 {
-    let m = number(i, tables::M);
+    let m = number(i, components::MOLAR_MASS);
     let h = number(i, Combustion::At15.superior());
     let fraction = rounding::nearest(fraction(i) * m * 10000000, total);
     fraction * rounding::nearest(1000000 * h, m)

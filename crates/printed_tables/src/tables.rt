@@ -12,9 +12,6 @@ use properties::quantities::MassCalorificValue;
 use properties::steps;
 use std::io;
 
-// The column of molar masses, for which `components` lends no name.
-pub const M: usize = 0;
-
 // A number of the component table, without its sign; line and column are those of `components::entry`.
 #[tactic(auto, using(components::proofs::Entries::entry_below))]
 pub fn number(line: usize, column: usize) -> u64
@@ -48,7 +45,7 @@ impl Table4 {
         ensures { result ≡ figure_per_kilogram line column }
     {
         let h = number(line, Combustion::At25.superior() + column);
-        let m = number(line, M);
+        let m = number(line, components::MOLAR_MASS);
         let value = steps::per_kilogram(1000000 * h, 1000000 * m).value();
         rounding::nearest(value * Self::scale_of_line(line), MassCalorificValue::SCALE)
     }

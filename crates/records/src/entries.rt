@@ -2,7 +2,8 @@
 // A line number is any byte, of which 7 refuses some; C lends it and its fraction in two lists, and so no struct has both.
 ghost use Rattle.std.specs.Prelude.{◌≡◌, ◌≤◌, ◌<◌, List, ℕ, length, get_or};
 
-// As many fractions as line numbers, read by index, and no more than a record's byte counts.
+// As many fractions as line numbers, read by index, and no more than a record's byte counts. An iterator would be one more type for each of
+// the two kinds.
 pub trait Entries {
     ghost lines: { Self → List ℕ };
 

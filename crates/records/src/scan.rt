@@ -84,6 +84,7 @@ fn check_lines<E: Entries>(entries: &E) -> Result<(), Refusal>
     ensures { number_in result ≡ first_of (lines_order (E.lines entries.now)) }
 {
     let mut before = 0;
+    // Left from inside by its label, as document 01 has the entry scan; so is the one below.
     'lines: {
         for k in 0..entries.len() {
             let line = entries.line(k);
