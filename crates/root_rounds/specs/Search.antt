@@ -3,7 +3,6 @@
 use Rattle.std.specs.Prelude.{◌≡◌, List, [], ◌∷◌, ◌++◌, cond, ℕ, zero, suc, ◌*◌, ◌-◌, ◌^◌, ◌≤◌, leb, ltb, length, take, replicate, Option, None, Some}
 use Rattle.root_rounds.specs.declared.Rooted.{Rooted}
 use Rattle.rounding.specs.Root.{Root, root, next_candidate}
-
 -- the candidate after c: the mean of c and n/c, rounded down
 unfoldable pub use Rattle.rounding.specs.Root.{next_candidate}
 
