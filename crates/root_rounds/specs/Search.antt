@@ -2,7 +2,7 @@
 -- candidate. It is Newton's method, from above. For the root r of document 01 n is d × 10^10, where d counts 10^-8 of relative density.
 use Rattle.std.specs.Prelude.{◌≡◌, List, [], ◌∷◌, ◌++◌, cond, ℕ, zero, suc, ◌*◌, ◌-◌, ◌^◌, ◌≤◌, leb, ltb, length, take, replicate, Option, None, Some}
 use Rattle.root_rounds.specs.declared.Rooted.{Rooted}
-use Rattle.rounding.specs.Root.{Root, root, next_candidate}
+use Rattle.rounding.specs.Root.{Root, root}
 -- the candidate after c: the mean of c and n/c, rounded down
 unfoldable pub use Rattle.rounding.specs.Root.{next_candidate}
 

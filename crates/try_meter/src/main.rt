@@ -10,7 +10,7 @@
 mod call;
 mod printed;
 
-ghost use Rattle.std.specs.Prelude.{◌≡◌, ◌≤◌, vec_len};
+ghost use Rattle.std.specs.Prelude.{◌≡◌, ◌≤◌, length, take};
 ghost use Rattle.try_meter.specs.Calls.{filled_by, after_call};
 
 use call::{Call, Calls, Kind};
@@ -18,7 +18,6 @@ use meter::{Energy, Meter, StreamTotals};
 use printed::{Accepted, Answer, Mean, Totals};
 use properties::quantities::CalorificValue;
 use records::Refusal;
-use std::alloc::Allocator;
 use std::io;
 use std::io::{Input, Read};
 
@@ -104,19 +103,24 @@ fn run(rt: &impl Print, input: &[u8]) -> io::Result<()> {
     Ok(())
 }
 
-// What can be read of the input, up to 2,048 bytes.
-fn read_input<R: Read + Drop, A: Allocator>(reader: R, alloc: A) -> Vec<u8, A>
-    ensures { vec_len result ≤ 2048 }
+// Reads until the buffer is full, the input ends or a read fails, and answers how many bytes it put at the start of the buffer. A Vec would
+// rest on the functions of C that allocate.
+fn read_full(reader: &mut impl Read, buffer: &mut [u8]) -> usize
+    ensures { (result ≤ length buffer.new) × (result ≡ length (take result buffer.new)) }
 {
-    let mut bytes = Vec::new(alloc);
-    let _ = reader.take(2048).read_to_end(&mut bytes);
-    // No clause of `read_to_end` says what the reader's limit is: this shows the bound.
-    bytes.truncate(2048);
-    bytes
+    let mut done = 0;
+    while done < buffer.len() {
+        match reader.read(&mut buffer[done..]) {
+            Ok(0) | Err(_) => break,
+            Ok(more) => done += more,
+        }
+    }
+    done
 }
 
-// It ends alike where memory is short or a write fails.
+// It ends alike where a write fails.
 fn main(rt: HostRuntime) {
-    let input = read_input(rt.reader(), rt.alloc());
-    let _ = run(&rt, &input);
+    let mut space = [0u8; 2048];
+    let n = read_full(&mut rt.reader(), &mut space);
+    let _ = run(&rt, &space[..n]);
 }
