@@ -6,3 +6,4 @@ pub mod StepBounds
 pub mod Gas
 pub mod Outcomes
 pub mod Summing
+mod Rounds

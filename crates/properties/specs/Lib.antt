@@ -5,5 +5,6 @@ pub mod Quantities
 pub mod Distances
 pub mod PerKilogram
 pub mod Accepted
+pub mod Rounds
 pub mod Answers
 pub mod Cases

@@ -1,8 +1,11 @@
--- Halves on both sides of 0, roots next to a square, rounds of a search: the definitions compute them.
+-- Halves on both sides of 0, roots next to a square, candidates of a search: the definitions compute them.
 use mathlib.Core.Path.{◌≡◌, refl}
+use mathlib.Core.List.{[], ◌∷◌}
 use lib.IntN.{pos, negsuc}
+use lib.ListN.{length}
 use Rattle.rounding.specs.Near.{near, near_z, floor}
-use Rattle.rounding.specs.Root.{root, root_from, next_candidate, first_candidate, rounds_from, root_rounds}
+use Rattle.rounding.specs.Root.{root, root_from}
+use Rattle.rounding.specs.Search.{next_candidate, first_candidate, round_of, candidates_from, candidates}
 
 half_up : (near 4 10 ≡ 0) × (near 5 10 ≡ 1) × (near 14 10 ≡ 1) × (near 15 10 ≡ 2)
 unfolding near
@@ -23,8 +26,14 @@ roots : (root 18446744065119617025 ≡ 4294967295) × (root 18446744065119617024
 unfolding root root_from
 roots = (refl, refl, refl)
 
--- the search for the root of 0 halves its candidate to 0, that of 0.6084 × 10^18 begins with the root, that of d × 10^10 of K1 takes two
--- rounds
-rounds : (root_rounds 0 ≡ 30) × (root_rounds 608400000000000000 ≡ 1) × (root_rounds 604593670000000000 ≡ 2)
-unfolding root root_from next_candidate first_candidate rounds_from root_rounds
-rounds = (refl, refl, refl)
+-- The candidates for relative densities: 0.6084 begins with the root, K1 and 0.07 (hydrogen) take two rounds, 0.7 three, 2.70343854 six, the
+-- most that `SixRounds` allows. The search for the root of 0 halves its candidate to 0, in 28 rounds, the most that any takes.
+searches :
+    (candidates 608400000000000000 ≡ 780000000 ∷ [])
+    × (candidates 604593670000000000 ≡ 777560044 ∷ 777556216 ∷ [])
+    × (candidates 70000000000000000 ≡ 264575471 ∷ 264575131 ∷ [])
+    × (candidates 700000000000000000 ≡ 838717948 ∷ 836662551 ∷ 836660026 ∷ [])
+    × (length (candidates 2703438540000000000) ≡ 6)
+    × (length (candidates 0) ≡ 28)
+unfolding next_candidate first_candidate round_of candidates_from candidates
+searches = (refl, refl, refl, refl, refl, refl)

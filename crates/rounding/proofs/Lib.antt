@@ -4,5 +4,8 @@ pub mod RootLaws
 pub mod SignedWords
 mod Signs
 mod Quotient
-pub mod Newton
+mod Newton
+mod FirstCandidate
+pub mod Search
+mod Underway
 mod Cases

@@ -1,16 +1,13 @@
--- Newton's method for a root, from above: a candidate is at least the root, each round halves its distance, and the rounds are
--- counted.
-use mathlib.Core.Path.{◌≡◌, ◌∙◌}
-use mathlib.Core.Bool.{cond}
-use Prim.Native.Nat.{ℕ, suc, ◌+◌, ◌*◌, ◌-◌, ◌/◌, ◌^◌, ◌≤◌, ◌<◌}
+-- Newton's method for a root, from above: how the candidate after c lies to the root of n and to c.
+use mathlib.Core.Path.{◌≡◌}
+use Prim.Native.Nat.{ℕ, ◌+◌, ◌*◌, ◌-◌, ◌/◌, ◌^◌, ◌≤◌, ◌<◌}
 use native.Mathlib.Omega.{arith}
-use native.Mathlib.Nat.{mul-le-mul, mul-le-mul_left, mul-le-mul_right, lt-mul-div-succ, div-lt_iff_lt-mul}
+use native.Mathlib.Nat.{mul-le-mul, mul-le-mul_left, mul-le-mul_right, le_of_mul-le-mul_right, mul-pos, div-mul-le_self, lt-mul-div-succ, div-lt_iff_lt-mul}
 use mathlib.Core.Logic.{⊎_elim}
-use Rattle.std.proofs.lemmas.Bool.{cases_lt, cond_both, eq-eqb, ne_eqb, ltb-true}
-use lib.Dec.{eqb, ltb}
-use lib.Pow.{pow-add, pow_mono}
-use Rattle.rounding.specs.Root.{Root, root, next_candidate, common_root, first_candidate, rounds_from, root_rounds}
-use Rattle.rounding.proofs.RootLaws.{below_of_squares, root_is, root_greatest}
+use Rattle.std.proofs.lemmas.Bool.{cases_lt}
+use Rattle.rounding.specs.Root.{Root, root}
+use Rattle.rounding.specs.Search.{next_candidate}
+use Rattle.rounding.proofs.RootLaws.{below_of_squares}
 
 -- a product is at most the square of the mean
 ordered : (c e r : ℕ) → 2 * c + e ≤ 2 * r → c * (c + e) ≤ r * r
@@ -42,87 +39,68 @@ module _ (n c : ℕ) where
     unfolding next_candidate
     half_as_far = omega (arith, quotient_below)
 
--- The root of n is at most c, which is less than 2^32 above it at first, and half as far after each round. The rounds made and those
--- still to be made are those of the whole search.
-pub record Above (n c rounds : ℕ) : Type 0 where
-  pub small : n < 2 ^ 64
-  pub least : root n ≤ c
-  top : c < 2 ^ 32
-  pub close : c * 2 ^ rounds < 2 ^ 32 + root n * 2 ^ rounds
-  pub few : rounds ≤ 32
-  pub left : rounds + rounds_from (root n) n (33 - rounds) c ≡ root_rounds n
+-- where the square of c is above n, the candidate after c is below c
+module _ (n c : ℕ) (h : n < c * c) where
+  pub positive : 0 < c
+  positive = below_of_squares 0 c n (omega arith) h
 
--- the first candidate
-first_least : (n : ℕ) → n < 2 ^ 64 → (root n ≤ first_candidate n) × (first_candidate n < 2 ^ 32)
-unfolding first_candidate
-first_least n h =
-    cond_both (ltb start (2 ^ 32)) start (2 ^ 32 - 1) (λ (c : ℕ). (root n ≤ c) × (c < 2 ^ 32))
-    (λ e. (not_below n common_root (root_is n h) (omega arith), ltb-true _ _ e))
-    (λ e. (omega (arith, below), omega arith))
-  where
-    start : ℕ
-    start = next_candidate n common_root
+  pub falls : next_candidate n c < c
+  unfolding next_candidate
+  falls = omega (arith, (div-lt_iff_lt-mul {k = c} positive).1 h)
 
-    below : root n < 2 ^ 32
-    below = below_of_squares (root n) (2 ^ 32) n (root_is n h).square (omega arith)
+-- the mean times c
+pub mean_times : (n c : ℕ) → 2 * (next_candidate n c * c) ≤ c * c + n
+unfolding next_candidate
+mean_times n c =
+    let twice : 2 * ((c + n / c) / 2) ≤ c + n / c = omega arith in
+    omega (arith, mul-le-mul_right c twice, div-mul-le_self n c)
 
-pub first_above : (n c : ℕ) → n < 2 ^ 64 → c ≡ first_candidate n → Above n c 0
-unfolding root_rounds
-first_above n c h e =
-    let f = first_least n h in
-    rw e (record { small = h; least = f.0; top = f.1; close = omega (arith, f.1); few = omega arith; left = omega arith })
+-- How far the square of a candidate is above n, as a fraction of n: c² is at most (1 + p/q) n.
+pub record Close (p q n c : ℕ) : Type 0 where
+  pub ratio : c * c * q ≤ n * (q + p)
 
--- one round
-module _ (r n c k : ℕ) (h : k ≤ 32) where
-  round : rounds_from r n (33 - k) c ≡ suc (cond (eqb c r) 0 (rounds_from r n (33 - (k + 1)) (next_candidate n c)))
-  unfolding rounds_from
-  round =
-      let e : 33 - k ≡ suc (32 - k) = omega arith in
-      let f : 33 - (k + 1) ≡ 32 - k = omega arith in
-      rw (e, f)
+-- twice the product of two numbers, squared
+doubled : (m c n d : ℕ) → 2 * (m * c) ≤ c * c + n → n + d ≡ c * c → 4 * (c * c * (m * m)) ≤ (2 * n + d) * (2 * n + d)
+doubled m c n d h e =
+    let k : 2 * (m * c) ≤ 2 * n + d = omega arith in
+    omega (arith, mul-le-mul k k)
 
-  round_last : c ≡ r → rounds_from r n (33 - k) c ≡ 1
-  round_last e = round ∙ rw (eq-eqb c r e)
+-- c² = n + d and a square n + y of the next candidate: y is at most d² / 4c²
+gap : (n d y : ℕ) → 4 * ((n + d) * (n + y)) ≤ (2 * n + d) * (2 * n + d) → 4 * ((n + d) * y) ≤ d * d
+gap n d y h = omega arith
 
-  round_next : r < c → rounds_from r n (33 - k) c ≡ suc (rounds_from r n (33 - (k + 1)) (next_candidate n c))
-  round_next l = round ∙ rw (ne_eqb c r (λ e. omega arith))
+-- so that with d at most (p/q) n the gap y is at most (p'/q') n, where p'/q' is at least p² / 4q(p + q)
+shrinks : (n d y p q p' q' : ℕ) → 0 < q → 0 < n + d → 4 * ((n + d) * y) ≤ d * d → d * q ≤ n * p → p * p * q' ≤ 4 * (q * (p + q)) * p' → y * q' ≤ n * p'
+shrinks n d y p q p' q' hq hc a b k =
+    let w : ℕ = q * (p + q) in
+    let e : 4 * w * y ≤ p * p * n =
+    le_of_mul-le-mul_right {m = 4 * w * y} {n = p * p * n} {k = n + d} (omega (arith, mul-le-mul_right w a, mul-le-mul b b, mul-le-mul_right (p * d) b)) hc in
+    le_of_mul-le-mul_right {m = y * q'} {n = n * p'} {k = 4 * w} (omega (arith, mul-le-mul_right q' e, mul-le-mul_right n k)) (omega (arith, mul-pos {n = p + q} hq (omega arith)))
 
-module _ {n c k : ℕ} (a : Above n c k) where
-  is : Root (root n) n
-  is = root_is n a.small
+-- where the square of c is above n, the candidate after it is closer
+module _ (n c : ℕ) (h : n < c * c) where
+  abbrev m : ℕ
+  m = next_candidate n c
 
-  pub square_fits : c * c < 2 ^ 64
-  square_fits = omega (arith, mul-le-mul a.top a.top)
+  -- with the squares of c and of the next candidate as n + d and n + y
+  squares : (d y : ℕ) → n + d ≡ c * c → n + y ≡ m * m → 4 * ((n + d) * y) ≤ d * d
+  squares d y e f = gap n d y (rw (e, f) (doubled (next_candidate n c) c n d (mean_times n c) e))
 
-  -- the candidate is the root, and this round is the last
-  pub found : c * c ≤ n → c ≡ root n
-  found h = omega (arith, a.least, root_greatest is c h)
+  pub closer : (p q p' q' : ℕ) → 0 < q → p * p * q' ≤ 4 * (q * (p + q)) * p' → Close p q n c → Close p' q' n m
+  closer p q p' q' hq k a =
+      ⊎_elim (λ l. record { ratio = above (c * c - n) (m * m - n) (omega arith) (omega arith) }) (λ l. record { ratio = omega (arith, mul-le-mul_right q' l) }) (cases_lt n (m * m))
+    where
+      above : (d y : ℕ) → n + d ≡ c * c → n + y ≡ m * m → m * m * q' ≤ n * (q' + p')
+      above d y e f =
+          let b : d * q ≤ n * p = omega (arith, rw (← e) at a.ratio) in
+          rw (← f) (omega (arith, shrinks n d y p q p' q' hq (omega arith) (squares d y e f) b k))
 
-  pub counted : c * c ≤ n → k + 1 ≡ root_rounds n
-  counted h = omega (arith, a.left, round_last (root n) n c k a.few (found h))
-
-  -- it is above the root, and the next one is closer
-  module _ (h : n < c * c) where
-    pub above : root n < c
-    above = below_of_squares (root n) c n is.square h
-
-    pub sum_fits : c + n / c < 2 ^ 64
-    sum_fits = omega (arith, a.top, above, quotient_below n c is above)
-
-    pub lower : next_candidate n c < c
-    lower = omega (arith, above, half_as_far n c is above)
-
-    fewer : k ≤ 31
-    fewer =
-        ⊎_elim (λ l. omega arith) (λ l. absurd (omega (arith, pow_mono l, mul-le-mul_right (2 ^ k) above, a.close))) (cases_lt k 32)
-
-    pub again : Above n (next_candidate n c) (k + 1)
-    again =
-        record {
-          small = a.small;
-          least = not_below n c is (omega (arith, above));
-          top = omega (arith, lower, a.top);
-          close = rw (pow-add 2 k 1) (omega (arith, a.close, mul-le-mul_right (2 ^ k) (half_as_far n c is above)));
-          few = omega (arith, fewer);
-          left = omega (arith, a.left, round_next (root n) n c k a.few above);
-        }
+  -- and the root, once the square of c is at most 10^-11 of n above it
+  pub root_next : n < 2 ^ 64 → Close 1 100000000000 n c → m * m ≤ n
+  root_next small a = ⊎_elim (λ l. above (c * c - n) (m * m - n) (omega arith) (omega arith) (omega arith)) (λ l. l) (cases_lt n (m * m))
+    where
+      above : (d y : ℕ) → n + d ≡ c * c → n + y ≡ m * m → 0 < y → m * m ≤ n
+      above d y e f py =
+          let b : d * 100000000000 ≤ n = omega (arith, rw (← e) at a.ratio) in
+          let s : d ≤ 184467441 = omega arith in
+          absurd (omega (arith, squares d y e f, mul-le-mul_left (n + d) py, mul-le-mul_left d s))

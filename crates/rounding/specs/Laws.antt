@@ -1,8 +1,10 @@
 -- What is shown of the definitions of this crate, as statements. `NearHalf` is proved as `near_half` in proofs/, and so each.
-use Rattle.std.specs.Prelude.{◌≡◌, ℕ, ◌+◌, ◌*◌, ◌^◌, ◌≤◌, ◌<◌, ℤ, pos, negsuc, neg_ℤ, nat_abs}
+use Rattle.std.specs.Prelude.{◌≡◌, ℕ, ◌+◌, ◌*◌, ◌^◌, ◌≤◌, ◌<◌, length, ℤ, pos, negsuc, neg_ℤ, nat_abs}
 use Rattle.rounding.specs.Near.{near, near_z}
 use Rattle.rounding.specs.Fraction.{Fraction, Within, ◌over◌, half, whole, plus, times}
 use Rattle.rounding.specs.Root.{Root, root}
+use Rattle.rounding.specs.declared.Rooted.{Rooted}
+use Rattle.rounding.specs.Search.{candidates, RootInRounds, Searched, told}
 
 -- near differs from n/q by at most a half
 abbrev pub NearHalf : Type 0
@@ -43,3 +45,15 @@ WithinWider = (t u : Fraction) (v : ℕ) (x : Fraction) → 0 < u.den → t.num 
 -- root gives the integer root of every number below 2^64
 abbrev pub RootIs : Type 0
 RootIs = (n : ℕ) → n < 2 ^ 64 → Root (root n) n
+
+-- the search for the root of every number below 2^64 keeps W-203 of document 02
+abbrev pub EverySearch : Type 0
+EverySearch = (n : ℕ) → n < 2 ^ 64 → RootInRounds n (candidates n)
+
+-- and so do the candidates that `root_search` tells, whatever it answers by its contract
+abbrev pub SearchTells : Type 0
+SearchTells = (n : ℕ) (found : Rooted) → n < 2 ^ 64 → Searched n found → RootInRounds n (told found)
+
+-- they are 6 at most for a relative density from 0.062 to 3.9
+abbrev pub SixRounds : Type 0
+SixRounds = (n : ℕ) → 62 * 10 ^ 15 ≤ n → n ≤ 39 * 10 ^ 17 → length (candidates n) ≤ 6

@@ -1,5 +1,6 @@
 pub mod Near
 pub mod Fraction
 pub mod Root
+pub mod Search
 pub mod Wide
 pub mod Laws

@@ -1,10 +1,11 @@
 // Rounding to the nearest whole number, halves upward, and the integer square root.
 #![tactic(auto)]
 
-ghost use Rattle.std.specs.Prelude.{◌≡◌, ◌^◌, ◌≤◌, ◌<◌, pos, neg_ℤ, nat_abs};
+ghost use Rattle.std.specs.Prelude.{◌≡◌, ◌+◌, ◌/◌, ◌^◌, ◌<◌, pos, neg_ℤ, nat_abs};
 ghost use Rattle.rounding.specs.Near.{near, near_z};
 ghost use Rattle.rounding.specs.Wide.{Wide, dividend};
-ghost use Rattle.rounding.specs.Root.{root, first_candidate, root_rounds};
+ghost use Rattle.rounding.specs.Root.{root};
+ghost use Rattle.rounding.specs.Search.{next_candidate, first_candidate, round_of, Searched};
 
 // The whole number nearest to n / q, halves upward. n is not doubled, so every n has an answer.
 // Every caller knows that its q is above 0, and would have to make a `NonZeroU64` of it.
@@ -52,40 +53,77 @@ pub fn nearest_signed(n: i64, q: u64) -> i64
     }
 }
 
-// A root, and the rounds that its search took.
-#[derive(Clone, Copy)]
-struct Rooted {
-    root: u64,
-    rounds: u64,
+// Roots that are near those of natural gases, and of hydrogen.
+const NATURAL_ROOT: u64 = 780000000;
+
+const HYDROGEN_ROOT: u64 = 265000000;
+
+// The n below which the one is near, and below that the other: relative densities of 6 and of 0.2.
+const NATURAL_BELOW: u64 = 6000000000000000000;
+
+const HYDROGEN_BELOW: u64 = 200000000000000000;
+
+// The candidate after c: the mean of c and n / c, rounded down.
+fn next_candidate(n: u64, c: u64) -> u64
+    requires { (0 < c) × (c + n / c < 2 ^ 64) }
+    ensures { result ≡ next_candidate n c }
+{
+    (c + n / c) / 2
 }
 
-// A root near those of natural gases.
-const COMMON_ROOT: u64 = 780000000;
-
 // The first candidate for the root, at least the root.
-fn first_candidate(n: u64) -> u64
+pub fn first_candidate(n: u64) -> u32
     ensures { result ≡ first_candidate n }
 {
-    let c = (COMMON_ROOT + n / COMMON_ROOT) / 2;
-    c.min(u64::from(u32::MAX))
+    if n < HYDROGEN_BELOW {
+        return next_candidate(n, HYDROGEN_ROOT) as u32;
+    }
+    if n < NATURAL_BELOW {
+        return next_candidate(n, NATURAL_ROOT) as u32;
+    }
+    u32::MAX
+}
+
+// One round: it tries the candidate c, and gives the one after it. Of a c that is at least the root there is none just where c is the
+// root, and the round is the last.
+pub fn try_candidate(n: u64, c: u32) -> Option<u32>
+    ensures { result ≡ round_of n c }
+{
+    let candidate = u64::from(c);
+    if candidate * candidate <= n {
+        return None;
+    }
+    Some(next_candidate(n, candidate) as u32)
+}
+
+// A root, the rounds that its search took, and their candidates in the order in which they were tried, with 0 past them. The candidates
+// stand in an array, and the rounds are counted beside it, since the C interface has no heap and takes an array.
+#[derive(Clone, Copy)]
+pub struct Rooted {
+    pub root: u64,
+    pub rounds: u64,
+    pub tried: [u32; 40],
 }
 
 // The integer square root by Newton's method, from above: a candidate is at least the root, and at most half as far from it as
 // the one before. Each round tries one candidate, and the search ends with the round whose candidate is the root.
-// The rounds are counted by hand: a `for` over them would owe an answer after its last one, which never comes.
-fn root_search(n: u64) -> Rooted
-    ensures right { result.root ≡ root n }
-    ensures counted { result.rounds ≡ root_rounds n }
-    ensures few { result.rounds ≤ 33 }
+pub fn root_search(n: u64) -> Rooted
+    ensures { Searched n result }
 {
+    let mut tried = [0u32; 40];
     let mut c = first_candidate(n);
     let mut rounds: u64 = 0;
     loop {
+        tried[rounds as usize] = c;
         rounds += 1;
-        if c * c <= n {
-            return Rooted { root: c, rounds };
-        }
-        c = (c + n / c) / 2;
+        let Some(next) = try_candidate(n, c) else {
+            return Rooted {
+                root: u64::from(c),
+                rounds,
+                tried,
+            };
+        };
+        c = next;
     }
 }
 

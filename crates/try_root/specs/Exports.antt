@@ -1,6 +1,6 @@
 -- What the exported function gives of a search, in the number and the memory that it answers with.
 use Rattle.std.specs.Prelude.{List, ℕ}
-use Rattle.root_rounds.specs.declared.Rooted.{Rooted}
+use Rattle.rounding.specs.declared.Rooted.{Rooted}
 use Rattle.rounding.specs.Root.{root}
 
 -- a search for the root of n with its rounds and its candidates

@@ -4,7 +4,7 @@
 
 ghost use Rattle.std.specs.Prelude.{◌≡◌, is_none, unwrap_or};
 ghost use Rattle.rounding.specs.Root.{root};
-ghost use Rattle.root_rounds.specs.Search.{first_candidate, round_of, Searched};
+ghost use Rattle.rounding.specs.Search.{first_candidate, round_of, Searched};
 ghost use Rattle.try_root.specs.Exports.{rooted};
 
 // The first candidate for the root of n.
@@ -12,7 +12,7 @@ ghost use Rattle.try_root.specs.Exports.{rooted};
 pub extern "C" fn try_root_first_candidate(n: u64) -> u32
     ensures { result ≡ first_candidate n }
 {
-    root_rounds::first_candidate(n)
+    rounding::first_candidate(n)
 }
 
 // One round of the search for the root of n, which tries c: whether it is the last. Where it is not, the next candidate goes into `next`:
@@ -21,7 +21,7 @@ pub extern "C" fn try_root_first_candidate(n: u64) -> u32
 pub extern "C" fn try_root_round(n: u64, c: u32, next: &mut u32) -> bool
     ensures { (result ≡ is_none (round_of n c)) × (next.new ≡ unwrap_or (round_of n c) next.old) }
 {
-    let Some(after) = root_rounds::try_candidate(n, c) else {
+    let Some(after) = rounding::try_candidate(n, c) else {
         return true;
     };
     *next = after;
@@ -33,7 +33,7 @@ pub extern "C" fn try_root_round(n: u64, c: u32, next: &mut u32) -> bool
 pub extern "C" fn try_root_search(n: u64, tried: &mut [u32; 40]) -> u64
     ensures { Searched n (rooted n result tried.new) }
 {
-    let found = root_rounds::root_search(n);
+    let found = rounding::root_search(n);
     let candidates = found.tried;
     *tried = candidates;
     found.rounds

@@ -1,25 +1,23 @@
--- The loop keeps that the candidate is at least the root; its measure is the candidate.
-use Prim.Native.Nat.{◌*◌, ◌≤◌}
+-- The loop keeps that a search is under way; its measure is the candidate, which falls.
+use mathlib.Core.Path.{sym, ◌∙◌}
 use native.Mathlib.Omega.{arith}
-use Rattle.rounding.specs.Root.{next_candidate}
-use Rattle.rounding.proofs.Newton.{first_above, square_fits, found, counted, sum_fits, again}
+use Rattle.rounding.proofs.Newton.{falls}
+use Rattle.rounding.proofs.Search.{told_last, told_next}
+use Rattle.rounding.proofs.Underway.{begun, ends, again}
 use Rattle.rounding.proofs.root_search.Goals as goal
 
-pub loop-c-init : goal.loop-c-init
-loop-c-init c = first_above _ _ (omega arith) c.first_candidate-c.ensures
+pub loop-next-init : goal.loop-next-init
+loop-next-init c = begun _ _ (omega arith) c.first_candidate-c.ensures
 
-pub overflow_mul-c : goal.overflow_mul-c
-overflow_mul-c c = omega (arith, square_fits c.loop-c.invariant)
+pub returns-in_default : goal.returns-in_default
+returns-in_default c = rw c.from.ensures (ends (omega arith) c.loop-next.invariant (told_last _ _ (sym c.try_candidate.ensures ∙ c.in_default.is)))
 
-pub returns-then-c-n : goal.returns-then-c-n
-returns-then-c-n c =
-    let b = c.loop-c.invariant in
-    let h : c.loop-c.c * c.loop-c.c ≤ c.args.n = omega arith in
-    record { right = found b h; counted = counted b h; few = omega (arith, b.few) }
+pub loop-next-smaller : goal.loop-next-smaller
+loop-next-smaller c =
+    let told = told_next _ _ _ (sym c.try_candidate.ensures ∙ c.in-Some.is) in
+    omega (arith, told.1, falls _ _ told.0)
 
-pub overflow_add-c : goal.overflow_add-c
-overflow_add-c c = omega (arith, sum_fits c.loop-c.invariant (omega arith))
-
-pub loop-c-preserved : goal.loop-c-preserved
-unfolding next_candidate
-loop-c-preserved c = again c.loop-c.invariant (omega arith)
+pub loop-next-preserved : goal.loop-next-preserved
+loop-next-preserved c =
+    let told = told_next _ _ _ (sym c.try_candidate.ensures ∙ c.in-Some.is) in
+    rw (← told.1) (again (omega arith) c.loop-next.invariant told.0)

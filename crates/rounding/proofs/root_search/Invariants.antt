@@ -1,8 +1,8 @@
-use Rattle.rounding.proofs.Newton.{Above}
+use Rattle.rounding.proofs.Underway.{Underway}
 use Rattle.rounding.proofs.root_search.Given as goal
 
-abbrev pub invariant-loop-c : goal.invariant-loop-c
-invariant-loop-c l = Above l.n l.c l.rounds
+abbrev pub invariant-loop-next : goal.invariant-loop-next
+invariant-loop-next l = Underway l.n l.tried l.c l.rounds
 
-abbrev pub decreases-loop-c : goal.decreases-loop-c
-decreases-loop-c l = l.c
+abbrev pub decreases-loop-next : goal.decreases-loop-next
+decreases-loop-next l = l.c

@@ -10,12 +10,11 @@ use lib.ListN.{length}
 use lib.Seq.{take_at}
 use Rattle.std.specs.Prelude.{None, Some}
 use Rattle.rounding.specs.Root.{Root, root}
-use Rattle.root_rounds.specs.Search.{next_candidate, hydrogen_below, first_candidate, round_of, candidates_from, candidates, Rounds, last, another, told}
-use Rattle.root_rounds.specs.Laws.{EverySearch, SearchTells, SixRounds}
+use Rattle.rounding.specs.Search.{next_candidate, hydrogen_below, first_candidate, round_of, candidates_from, candidates, Rounds, last, another, told}
+use Rattle.rounding.specs.Laws.{EverySearch, SearchTells, SixRounds}
 use Rattle.rounding.proofs.RootLaws.{below_of_squares, root_is, root_greatest}
-use Rattle.rounding.proofs.Newton.{not_below, half_as_far}
-use Rattle.root_rounds.proofs.Newton.{positive, Close, closer, root_next}
-use Rattle.root_rounds.proofs.FirstCandidate.{low_distance, first_starts, first_distant, first_close}
+use Rattle.rounding.proofs.Newton.{not_below, half_as_far, positive, Close, closer, root_next}
+use Rattle.rounding.proofs.FirstCandidate.{low_distance, first_starts, first_distant, first_close}
 
 -- a round tells whether the square of its candidate is at most n
 module _ (n c : ℕ) where

@@ -1,7 +1,7 @@
 -- The d of an accepted record is between its floor and its ceiling, where six rounds are enough.
 use native.Mathlib.Omega.{arith}
-use Rattle.root_rounds.proofs.Search.{every_search, six_rounds}
-use Rattle.root_rounds.specs.Rounds.{radicand, AcceptedRounds}
+use Rattle.rounding.proofs.Search.{every_search, six_rounds}
+use Rattle.properties.specs.Rounds.{radicand, AcceptedRounds}
 use Rattle.properties.proofs.Gas.{every_accepted_record}
 
 pub accepted_rounds : AcceptedRounds

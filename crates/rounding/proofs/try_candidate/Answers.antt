@@ -2,9 +2,9 @@
 use mathlib.Core.Path.{ap, ◌∙◌}
 use native.Mathlib.Omega.{arith}
 use Rattle.std.specs.Prelude.{Some}
-use Rattle.root_rounds.proofs.Newton.{falls}
-use Rattle.root_rounds.proofs.Search.{is_last, is_next}
-use Rattle.root_rounds.proofs.try_candidate.Goals as goal
+use Rattle.rounding.proofs.Newton.{falls}
+use Rattle.rounding.proofs.Search.{is_last, is_next}
+use Rattle.rounding.proofs.try_candidate.Goals as goal
 
 pub returns-then-candidate-n : goal.returns-then-candidate-n
 returns-then-candidate-n c = rw (← c.from-candidate.ensures) (is_last _ _ (omega arith))

@@ -1,10 +1,12 @@
 -- The search for the integer root of n, which document 01 leaves to the program, in rounds as W-203 of document 02 has them: each tries one
 -- candidate. It is Newton's method, from above. For the root r of document 01 n is d × 10^10, where d counts 10^-8 of relative density.
-use Rattle.std.specs.Prelude.{◌≡◌, List, [], ◌∷◌, ◌++◌, cond, ℕ, zero, suc, ◌*◌, ◌-◌, ◌^◌, ◌≤◌, leb, ltb, length, take, replicate, Option, None, Some}
-use Rattle.root_rounds.specs.declared.Rooted.{Rooted}
+use Rattle.std.specs.Prelude.{◌≡◌, List, [], ◌∷◌, ◌++◌, cond, ℕ, zero, suc, ◌+◌, ◌*◌, ◌-◌, ◌/◌, ◌^◌, ◌≤◌, leb, ltb, length, take, replicate, Option, None, Some}
+use Rattle.rounding.specs.declared.Rooted.{Rooted}
 use Rattle.rounding.specs.Root.{Root, root}
+
 -- the candidate after c: the mean of c and n/c, rounded down
-unfoldable pub use Rattle.rounding.specs.Root.{next_candidate}
+unfoldable pub next_candidate : ℕ → ℕ → ℕ
+next_candidate n c = (c + n / c) / 2
 
 -- Roots that are near those of gases: of n for a relative density of 0.6084 (natural gases), and for 0.070225 (hydrogen).
 abbrev pub natural_root : ℕ

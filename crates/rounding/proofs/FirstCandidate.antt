@@ -6,10 +6,9 @@ use native.Mathlib.Nat.{mul-le-mul, mul-le-mul_right, le_of_mul-le-mul_right}
 use mathlib.Core.Logic.{⊎_elim}
 use Rattle.std.proofs.lemmas.Bool.{cases_lt, lt-ltb, le-ltb}
 use Rattle.rounding.specs.Root.{Root, root}
-use Rattle.root_rounds.specs.Search.{next_candidate, natural_root, hydrogen_root, hydrogen_below, natural_below, first_candidate}
+use Rattle.rounding.specs.Search.{next_candidate, natural_root, hydrogen_root, hydrogen_below, natural_below, first_candidate}
 use Rattle.rounding.proofs.RootLaws.{below_of_squares, root_greatest}
-use Rattle.rounding.proofs.Newton.{not_below}
-use Rattle.root_rounds.proofs.Newton.{mean_times, Close}
+use Rattle.rounding.proofs.Newton.{not_below, mean_times, Close}
 
 -- (r - lo) × (hi - r) is not below 0
 chord : (lo a b r hi : ℕ) → lo + a ≡ r → r + b ≡ hi → r * r + lo * hi ≤ (lo + hi) * r

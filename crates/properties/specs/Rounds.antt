@@ -1,6 +1,6 @@
 -- The search for r, the root of d × 10^10, in every accepted record (W-203 of document 02).
 use Rattle.std.specs.Prelude.{◌≡◌, List, ℕ, ◌*◌, ◌^◌, ◌≤◌, length}
-use Rattle.root_rounds.specs.Search.{candidates, RootInRounds}
+use Rattle.rounding.specs.Search.{candidates, RootInRounds}
 use Rattle.records.specs.Order.{accepted}
 use Rattle.records.specs.Format.{Contents}
 use Rattle.records.specs.Calls.{reading_of}

@@ -7,12 +7,11 @@ use native.Mathlib.Omega.{arith}
 use lib.ListN.{length, take, drop, set, length-append, length-set, replicate, take-append-drop}
 use lib.Seq.{length-take-le, take-suc-set, drop-set-lt, drop-drop}
 use Rattle.rounding.specs.Root.{root}
-use Rattle.root_rounds.specs.Search.{next_candidate, first_candidate, candidates_from, candidates, Searched}
+use Rattle.rounding.specs.Search.{next_candidate, first_candidate, candidates_from, candidates, Searched}
 use Rattle.rounding.proofs.RootLaws.{root_is}
-use Rattle.rounding.proofs.Newton.{not_below}
-use Rattle.root_rounds.proofs.Newton.{positive, falls}
-use Rattle.root_rounds.proofs.FirstCandidate.{first_starts}
-use Rattle.root_rounds.proofs.Search.{from_last, from_another, root_found, every_search}
+use Rattle.rounding.proofs.Newton.{not_below, positive, falls}
+use Rattle.rounding.proofs.FirstCandidate.{first_starts}
+use Rattle.rounding.proofs.Search.{from_last, from_another, root_found, every_search}
 
 -- after some rounds of the search for the root of n: c is the candidate of the next one
 pub record Underway (n : ℕ) (tried : List ℕ) (c rounds : ℕ) : Type 0 where

@@ -1,6 +1,0 @@
-mod Newton
-mod FirstCandidate
-pub mod Search
-mod Underway
-mod Rounds
-mod Cases

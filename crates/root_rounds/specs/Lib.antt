@@ -1,3 +1,0 @@
-pub mod Search
-pub mod Laws
-pub mod Rounds
