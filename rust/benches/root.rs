@@ -17,7 +17,7 @@ use root_search::{
 use std::hint::black_box;
 use timing::{goal, percentile, ratios, Side, REPETITIONS};
 
-/// Roots that a side takes in a repetition, about 1 to 3 ms.
+/// Roots that a side takes in a repetition, 2 to 5 ms.
 const CALLS: u32 = 100_000;
 
 type Root = extern "C" fn(u64) -> u64;

@@ -2,7 +2,6 @@
 use mathlib.Core.Path.{◌≡◌, refl}
 use mathlib.Core.List.{[], ◌∷◌}
 use lib.IntN.{pos, negsuc}
-use lib.ListN.{length}
 use Rattle.rounding.specs.Near.{near, near_z, floor}
 use Rattle.rounding.specs.Root.{root, root_from}
 use Rattle.rounding.specs.Search.{next_candidate, first_candidate, round_of, candidates_from, candidates}
@@ -26,14 +25,11 @@ roots : (root 18446744065119617025 ≡ 4294967295) × (root 18446744065119617024
 unfolding root root_from
 roots = (refl, refl, refl)
 
--- The candidates for relative densities: 0.6084 begins with the root, K1 and 0.07 (hydrogen) take two rounds, 0.7 three, 2.70343854 six, the
--- most that `SixRounds` allows. The search for the root of 0 halves its candidate to 0, in 28 rounds, the most that any takes.
+-- the candidates for relative densities: 0.6084 begins with the root, K1 and 0.07 (hydrogen) take two rounds, 0.7 three
 searches :
     (candidates 608400000000000000 ≡ 780000000 ∷ [])
     × (candidates 604593670000000000 ≡ 777560044 ∷ 777556216 ∷ [])
     × (candidates 70000000000000000 ≡ 264575471 ∷ 264575131 ∷ [])
     × (candidates 700000000000000000 ≡ 838717948 ∷ 836662551 ∷ 836660026 ∷ [])
-    × (length (candidates 2703438540000000000) ≡ 6)
-    × (length (candidates 0) ≡ 28)
 unfolding next_candidate first_candidate round_of candidates_from candidates
-searches = (refl, refl, refl, refl, refl, refl)
+searches = (refl, refl, refl, refl)

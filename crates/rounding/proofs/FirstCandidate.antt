@@ -24,9 +24,6 @@ pub record Starts (n c : ℕ) : Type 0 where
   pub top : c < 2 ^ 32
 
 module _ (n : ℕ) (is : Root (root n) n) where
-  root_from_lem : (lo : ℕ) → lo * lo ≤ n → lo ≤ root n
-  root_from_lem lo h = root_greatest is lo h
-
   root_to : (hi : ℕ) → n < (hi + 1) * (hi + 1) → root n ≤ hi
   root_to hi h = omega (arith, below_of_squares (root n) (hi + 1) n is.square h)
 
@@ -57,7 +54,7 @@ module _ (n : ℕ) (is : Root (root n) n) where
 
     low_close : 62 * 10 ^ 15 ≤ n → Close 11419 10000 n (first_candidate n)
     low_close l =
-        let r = reach hydrogen_root 248997991 border (root_from_lem 248997991 (omega arith)) to_low in
+        let r = reach hydrogen_root 248997991 border (root_greatest is 248997991 (omega arith)) to_low in
         rw first_low (close (next_candidate n hydrogen_root) 14635 11419 10000 (omega arith) (omega arith))
 
   -- the one after the root for natural gases
@@ -70,7 +67,7 @@ module _ (n : ℕ) (is : Root (root n) n) where
     to_middle = root_to 2449489742 (omega arith)
 
     middle : (hi : ℕ) → root n ≤ hi → 2 * (next_candidate n natural_root * natural_root) + border * hi ≤ natural_root * natural_root + (border + hi + 2) * root n
-    middle hi to = reach natural_root border hi (root_from_lem border (omega arith)) to
+    middle hi to = reach natural_root border hi (root_greatest is border (omega arith)) to
 
     middle_starts : Starts n (first_candidate n)
     middle_starts = rw first_middle (record { least = not_below n natural_root is (omega arith); top = omega (arith, to_middle, middle _ to_middle) })

@@ -10,8 +10,8 @@ use lib.ListN.{length}
 use lib.Seq.{take_at}
 use Rattle.std.specs.Prelude.{None, Some}
 use Rattle.rounding.specs.Root.{Root, root}
-use Rattle.rounding.specs.Search.{next_candidate, hydrogen_below, first_candidate, round_of, candidates_from, candidates, Rounds, last, another, told}
-use Rattle.rounding.specs.Laws.{EverySearch, SearchTells, SixRounds}
+use Rattle.rounding.specs.Search.{next_candidate, hydrogen_below, first_candidate, round_of, candidates_from, candidates, Rounds, last, another, most_rounds, tried_in}
+use Rattle.rounding.specs.Laws.{EverySearch, SearchesOfGases, SearchAnswers, NoFewerRounds}
 use Rattle.rounding.proofs.RootLaws.{below_of_squares, root_is, root_greatest}
 use Rattle.rounding.proofs.Newton.{not_below, half_as_far, positive, Close, closer, root_next}
 use Rattle.rounding.proofs.FirstCandidate.{low_distance, first_starts, first_distant, first_close}
@@ -107,7 +107,7 @@ module _ (n : ℕ) (small : n < 2 ^ 64) where
   is : Root (root n) n
   is = root_is n small
 
-  few : length (candidates n) ≤ 28
+  few : length (candidates n) ≤ most_rounds
   unfolding candidates
   few =
       ⊎_elim
@@ -115,19 +115,26 @@ module _ (n : ℕ) (small : n < 2 ^ 64) where
       (λ l. omega (arith, (seven small {f = 33} (first_distant n is l small)).few))
       (cases_lt n hydrogen_below)
 
+  in_rounds : Rounds n (first_candidate n) (candidates n)
+  unfolding candidates
+  in_rounds =
+      let s = first_starts n is small in
+      (halving n is 40 32 (first_candidate n) (omega arith) s.least (omega (arith, s.top))).0
+
 pub every_search : EverySearch
-unfolding candidates
-every_search n small =
-    let s = first_starts n (is n small) small in
-    record { rounds = (halving n (is n small) 40 32 (first_candidate n) (omega arith) s.least (omega (arith, s.top))).0; few = omega (arith, few n small) }
+every_search n small = record { rounds = in_rounds n small; few = few n small }
 
-pub search_tells : SearchTells
-search_tells n found small s =
-    let e : told found ≡ candidates n = rw (s.rounds_are, s.tried_are) (take_at (candidates n) _ (length (candidates n)) refl) in
-    rw e (every_search n small)
-
-pub six_rounds : SixRounds
+pub searches_of_gases : SearchesOfGases
 unfolding candidates
-six_rounds n l u =
+searches_of_gases n l u =
     let small : n < 2 ^ 64 = omega arith in
-    (six small {f = 34} (first_close n (is n small) l u)).few
+    record { rounds = in_rounds n small; few = (six small {f = 34} (first_close n (is n small) l u)).few }
+
+pub search_answers : SearchAnswers
+search_answers n found s =
+    let e : tried_in found ≡ candidates n = rw (s.rounds_are, s.tried_are) (take_at (candidates n) _ (length (candidates n)) refl) in
+    (rw e s.rounds_are, e)
+
+pub no_fewer_rounds : NoFewerRounds
+unfolding next_candidate first_candidate round_of candidates_from candidates
+no_fewer_rounds = (refl, refl)

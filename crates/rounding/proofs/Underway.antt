@@ -9,14 +9,13 @@ use lib.Seq.{length-take-le, take-suc-set, drop-set-lt, drop-drop}
 use Rattle.rounding.specs.Root.{root}
 use Rattle.rounding.specs.Search.{next_candidate, first_candidate, candidates_from, candidates, Searched}
 use Rattle.rounding.proofs.RootLaws.{root_is}
-use Rattle.rounding.proofs.Newton.{not_below, positive, falls}
+use Rattle.rounding.proofs.Newton.{not_below, positive}
 use Rattle.rounding.proofs.FirstCandidate.{first_starts}
 use Rattle.rounding.proofs.Search.{from_last, from_another, root_found, every_search}
 
 -- after some rounds of the search for the root of n: c is the candidate of the next one
 pub record Underway (n : ℕ) (tried : List ℕ) (c rounds : ℕ) : Type 0 where
   pub least : root n ≤ c
-  pub top : c < 2 ^ 32
   pub few : rounds < 40
   pub room : length tried ≡ 40
   pub made : take rounds tried ++ candidates_from n (40 - rounds) c ≡ candidates n
@@ -26,7 +25,7 @@ pub begun : (n c : ℕ) → n < 2 ^ 64 → c ≡ first_candidate n → Underway 
 unfolding candidates
 begun n c small e =
     let f = first_starts n (root_is n small) small in
-    rw e (record { least = f.least; top = f.top; few = omega arith; room = refl; made = refl; past = refl })
+    rw e (record { least = f.least; few = omega arith; room = refl; made = refl; past = refl })
 
 module _ {n c rounds : ℕ} {tried : List ℕ} (small : n < 2 ^ 64) (u : Underway n tried c rounds) where
   one_left : 40 - rounds ≡ suc (40 - (rounds + 1))
@@ -63,7 +62,6 @@ module _ {n c rounds : ℕ} {tried : List ℕ} (small : n < 2 ^ 64) (u : Underwa
       let all = more (candidates_from n (40 - (rounds + 1)) (next_candidate n c)) (rw one_left (from_another n (40 - (rounds + 1)) c h)) in
       record {
         least = not_below n c (root_is n small) (positive n c h);
-        top = omega (arith, falls n c h, u.top);
         few = omega (arith, (every_search n small).few, count, simp length-append at (ap length all));
         room = length-set tried rounds c ∙ u.room;
         made = all;

@@ -4,7 +4,7 @@ use Rattle.rounding.specs.Near.{near, near_z}
 use Rattle.rounding.specs.Fraction.{Fraction, Within, ◌over◌, half, whole, plus, times}
 use Rattle.rounding.specs.Root.{Root, root}
 use Rattle.rounding.specs.declared.Rooted.{Rooted}
-use Rattle.rounding.specs.Search.{candidates, RootInRounds, Searched, told}
+use Rattle.rounding.specs.Search.{candidates, RootInRounds, most_rounds, most_rounds_of_gases, Searched, tried_in}
 
 -- near differs from n/q by at most a half
 abbrev pub NearHalf : Type 0
@@ -48,12 +48,16 @@ RootIs = (n : ℕ) → n < 2 ^ 64 → Root (root n) n
 
 -- the search for the root of every number below 2^64 keeps W-203 of document 02
 abbrev pub EverySearch : Type 0
-EverySearch = (n : ℕ) → n < 2 ^ 64 → RootInRounds n (candidates n)
+EverySearch = (n : ℕ) → n < 2 ^ 64 → RootInRounds n most_rounds (candidates n)
 
--- and so do the candidates that `root_search` tells, whatever it answers by its contract
-abbrev pub SearchTells : Type 0
-SearchTells = (n : ℕ) (found : Rooted) → n < 2 ^ 64 → Searched n found → RootInRounds n (told found)
+-- with fewer rounds for a relative density from 0.062 to 3.9
+abbrev pub SearchesOfGases : Type 0
+SearchesOfGases = (n : ℕ) → 62 * 10 ^ 15 ≤ n → n ≤ 39 * 10 ^ 17 → RootInRounds n most_rounds_of_gases (candidates n)
 
--- they are 6 at most for a relative density from 0.062 to 3.9
-abbrev pub SixRounds : Type 0
-SixRounds = (n : ℕ) → 62 * 10 ^ 15 ≤ n → n ≤ 39 * 10 ^ 17 → length (candidates n) ≤ 6
+-- whatever `root_search` answers by its contract, its rounds are the candidates in it, and these are those of the search
+abbrev pub SearchAnswers : Type 0
+SearchAnswers = (n : ℕ) (found : Rooted) → Searched n found → (found.rounds ≡ length (tried_in found)) × (tried_in found ≡ candidates n)
+
+-- no smaller bounds are true: of 0, and of a relative density of 2.70343854
+abbrev pub NoFewerRounds : Type 0
+NoFewerRounds = (length (candidates 0) ≡ most_rounds) × (length (candidates 2703438540000000000) ≡ most_rounds_of_gases)

@@ -8,21 +8,22 @@ use Rattle.rounding.specs.Root.{Root, root}
 unfoldable pub next_candidate : ℕ → ℕ → ℕ
 next_candidate n c = (c + n / c) / 2
 
--- Roots that are near those of gases: of n for a relative density of 0.6084 (natural gases), and for 0.070225 (hydrogen).
-abbrev pub natural_root : ℕ
-natural_root = 780000000
-
+-- roots for a relative density of 0.070225 (hydrogen), and of 0.6084 (natural gases)
 abbrev pub hydrogen_root : ℕ
 hydrogen_root = 265000000
 
--- n for a relative density of 0.2, below which the second is nearer, and of 6, from which on neither is near
+abbrev pub natural_root : ℕ
+natural_root = 780000000
+
+-- n for a relative density of 0.2, and of 6
 abbrev pub hydrogen_below : ℕ
 hydrogen_below = 200000000000000000
 
 abbrev pub natural_below : ℕ
 natural_below = 6000000000000000000
 
--- the first candidate is the one after the root that is near; where none is, it is the largest root of a number below 2^64
+-- The first candidate: below a relative density of 0.2 the one after the root for hydrogen, from there to 6 the one after that for
+-- natural gases, and above the largest root of a number below 2^64.
 unfoldable pub first_candidate : ℕ → ℕ
 first_candidate n =
     cond (ltb n hydrogen_below)
@@ -53,17 +54,24 @@ pub data Rounds (n : ℕ) : ℕ → List ℕ → Type 0 where
   last : {c : ℕ} → Root c n → Rounds n c (c ∷ [])
   another : {c : ℕ} {cs : List ℕ} → (Root c n → ⊥) → Rounds n (next_candidate n c) cs → Rounds n c (c ∷ cs)
 
--- what is shown of the candidates cs of a search: rounds as W-203 asks for them, and 28 at most, where it allows 40
-pub record RootInRounds (n : ℕ) (cs : List ℕ) : Type 0 where
+-- what is shown of the candidates cs of a search: rounds as W-203 asks for them, and how many there are at most
+pub record RootInRounds (n most : ℕ) (cs : List ℕ) : Type 0 where
   pub rounds : Rounds n (first_candidate n) cs
-  pub few : length cs ≤ 28
+  pub few : length cs ≤ most
 
--- what a search gives: the root, how many rounds it took, and the candidates that it tried, in their order, with 0 past them
+-- the most rounds of any number below 2^64, where W-203 allows 40, and for a relative density from 0.062 to 3.9
+abbrev pub most_rounds : ℕ
+most_rounds = 28
+
+abbrev pub most_rounds_of_gases : ℕ
+most_rounds_of_gases = 6
+
+-- what a search answers: the root, how many rounds it took, and the candidates that it tried, in their order, with 0 past them
 pub record Searched (n : ℕ) (found : Rooted) : Type 0 where
   pub root_is : found.root ≡ root n
   pub rounds_are : found.rounds ≡ length (candidates n)
   pub tried_are : found.tried ≡ candidates n ++ replicate (40 - length (candidates n)) 0
 
--- the candidates that it tells
-abbrev pub told : Rooted → List ℕ
-told found = take found.rounds found.tried
+-- the candidates in that answer
+abbrev pub tried_in : Rooted → List ℕ
+tried_in found = take found.rounds found.tried

@@ -53,15 +53,16 @@ pub fn nearest_signed(n: i64, q: u64) -> i64
     }
 }
 
-// Roots that are near those of natural gases, and of hydrogen.
-const NATURAL_ROOT: u64 = 780000000;
-
+// Roots near those of hydrogen, and of natural gases.
 const HYDROGEN_ROOT: u64 = 265000000;
 
-// The n below which the one is near, and below that the other: relative densities of 6 and of 0.2.
-const NATURAL_BELOW: u64 = 6000000000000000000;
+const NATURAL_ROOT: u64 = 780000000;
 
+// The search for the root of an n below the first begins near the root for hydrogen, below the second near that for natural gases: relative
+// densities of 0.2 and 6.
 const HYDROGEN_BELOW: u64 = 200000000000000000;
+
+const NATURAL_BELOW: u64 = 6000000000000000000;
 
 // The candidate after c: the mean of c and n / c, rounded down.
 fn next_candidate(n: u64, c: u64) -> u64
@@ -84,8 +85,8 @@ pub fn first_candidate(n: u64) -> u32
     u32::MAX
 }
 
-// One round: it tries the candidate c, and gives the one after it. Of a c that is at least the root there is none just where c is the
-// root, and the round is the last.
+// One round, which tries the candidate c. It answers the candidate after c, or none where c² ≤ n: a c that is at least the root is the root
+// then.
 pub fn try_candidate(n: u64, c: u32) -> Option<u32>
     ensures { result ≡ round_of n c }
 {
@@ -96,8 +97,7 @@ pub fn try_candidate(n: u64, c: u32) -> Option<u32>
     Some(next_candidate(n, candidate) as u32)
 }
 
-// A root, the rounds that its search took, and their candidates in the order in which they were tried, with 0 past them. The candidates
-// stand in an array, and the rounds are counted beside it, since the C interface has no heap and takes an array.
+// A root, the rounds that its search took, and the candidate of each in their order, with 0 past them.
 #[derive(Clone, Copy)]
 pub struct Rooted {
     pub root: u64,
