@@ -1,7 +1,7 @@
 //! Counts the rounds of the search for the root (W-203 of document 02), one
-//! candidate at a time: each is the root just where its round is the last, and there
-//! are at most 40. Prints the most rounds of each kind of argument and where they
-//! occur.
+//! candidate at a time: each is the root just where its round is the last, and
+//! there are at most 40. Prints the most rounds of each kind of argument and where
+//! they occur.
 //!
 //! `cargo test --offline --release --test rounds`
 

@@ -1,7 +1,8 @@
 -- The search for r, the root of d × 10^10, in every accepted record (W-203 of document 02).
 use Rattle.std.specs.Prelude.{◌≡◌, List, ℕ, ◌*◌, ◌^◌}
 use Rattle.rounding.specs.declared.Rooted.{Rooted}
-use Rattle.rounding.specs.Search.{RootInRounds, most_rounds_of_gases, Searched, tried_in}
+use Rattle.rounding.specs.Search.{RootInRounds, most_rounds_of_gases}
+use Rattle.rounding.specs.Answers.{Searched, tried_in}
 use Rattle.records.specs.Order.{accepted}
 use Rattle.records.specs.Format.{Contents}
 use Rattle.records.specs.Calls.{reading_of}

@@ -1,22 +1,24 @@
 -- The rounds of the search: the last candidate is the root, and how many there are.
-use mathlib.Core.Path.{◌≡◌, refl, ◌∙◌}
+use mathlib.Core.Path.{◌≡◌, refl, sym, ◌∙◌}
 use mathlib.Core.List.{[], ◌∷◌}
 use Prim.Native.Nat.{ℕ, zero, suc, ◌+◌, ◌*◌, ◌^◌, ◌≤◌, ◌<◌}
 use native.Mathlib.Omega.{arith}
 use mathlib.Core.Logic.{◌⊎◌, inl, inr, ⊎_elim}
 use native.Mathlib.Nat.{pow-suc}
 use Rattle.std.proofs.lemmas.Bool.{cases_lt, le-leb, lt-leb}
+use Rattle.std.proofs.lemmas.Option.{none-some, same_Some}
 use lib.ListN.{length}
 use lib.Seq.{take_at}
 use Rattle.std.specs.Prelude.{None, Some}
 use Rattle.rounding.specs.Root.{Root, root}
-use Rattle.rounding.specs.Search.{next_candidate, hydrogen_below, first_candidate, round_of, candidates_from, candidates, Rounds, last, another, most_rounds, tried_in}
+use Rattle.rounding.specs.Search.{next_candidate, hydrogen_below, first_candidate, round_of, candidates_from, candidates, Rounds, last, another, most_rounds}
+use Rattle.rounding.specs.Answers.{tried_in}
 use Rattle.rounding.specs.Laws.{EverySearch, SearchesOfGases, SearchAnswers, NoFewerRounds}
 use Rattle.rounding.proofs.RootLaws.{below_of_squares, root_is, root_greatest}
 use Rattle.rounding.proofs.Newton.{not_below, half_as_far, positive, Close, closer, root_next}
 use Rattle.rounding.proofs.FirstCandidate.{low_distance, first_starts, first_distant, first_close}
 
--- a round tells whether the square of its candidate is at most n
+-- what a round answers, and what its answer says of its candidate
 module _ (n c : ℕ) where
   pub is_last : c * c ≤ n → None ≡ round_of n c
   unfolding round_of
@@ -26,16 +28,11 @@ module _ (n c : ℕ) where
   unfolding round_of
   is_next h = rw (lt-leb (c * c) n h)
 
-  pub told_last : round_of n c ≡ None → c * c ≤ n
-  told_last e =
-      ⊎_elim (λ g. let f : Some (next_candidate n c) ≡ None = is_next g ∙ e in let z : ◌≡◌ {A = ℕ} 0 1 = cc in absurd (omega arith)) (λ h. h) (cases_lt n (c * c))
+  pub when_none : round_of n c ≡ None → c * c ≤ n
+  when_none e = ⊎_elim (λ h. absurd (none-some _ (sym (is_next h ∙ e)))) (λ h. h) (cases_lt n (c * c))
 
-  pub told_next : (d : ℕ) → round_of n c ≡ Some d → (n < c * c) × (next_candidate n c ≡ d)
-  told_next d e =
-      ⊎_elim
-      (λ h. let f : Some (next_candidate n c) ≡ Some d = is_next h ∙ e in (h, cc))
-      (λ h. let f : None ≡ Some d = is_last h ∙ e in let z : ◌≡◌ {A = ℕ} 0 1 = cc in absurd (omega arith))
-      (cases_lt n (c * c))
+  pub when_some : (d : ℕ) → round_of n c ≡ Some d → (n < c * c) × (next_candidate n c ≡ d)
+  when_some d e = ⊎_elim (λ h. (h, same_Some _ _ (is_next h ∙ e))) (λ h. absurd (none-some _ (is_last h ∙ e))) (cases_lt n (c * c))
 
 -- and what follows it
 module _ (n f c : ℕ) where

@@ -7,7 +7,8 @@ use native.Mathlib.Omega.{arith}
 use lib.ListN.{length, take, drop, set, length-append, length-set, replicate, take-append-drop}
 use lib.Seq.{length-take-le, take-suc-set, drop-set-lt, drop-drop}
 use Rattle.rounding.specs.Root.{root}
-use Rattle.rounding.specs.Search.{next_candidate, first_candidate, candidates_from, candidates, Searched}
+use Rattle.rounding.specs.Search.{next_candidate, first_candidate, candidates_from, candidates}
+use Rattle.rounding.specs.Answers.{Searched}
 use Rattle.rounding.proofs.RootLaws.{root_is}
 use Rattle.rounding.proofs.Newton.{not_below, positive}
 use Rattle.rounding.proofs.FirstCandidate.{first_starts}

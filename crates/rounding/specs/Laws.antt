@@ -4,7 +4,8 @@ use Rattle.rounding.specs.Near.{near, near_z}
 use Rattle.rounding.specs.Fraction.{Fraction, Within, ◌over◌, half, whole, plus, times}
 use Rattle.rounding.specs.Root.{Root, root}
 use Rattle.rounding.specs.declared.Rooted.{Rooted}
-use Rattle.rounding.specs.Search.{candidates, RootInRounds, most_rounds, most_rounds_of_gases, Searched, tried_in}
+use Rattle.rounding.specs.Search.{candidates, RootInRounds, most_rounds, most_rounds_of_gases}
+use Rattle.rounding.specs.Answers.{Searched, tried_in}
 
 -- near differs from n/q by at most a half
 abbrev pub NearHalf : Type 0

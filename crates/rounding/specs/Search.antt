@@ -1,8 +1,7 @@
 -- The search for the integer root of n, which document 01 leaves to the program, in rounds as W-203 of document 02 has them: each tries one
 -- candidate. It is Newton's method, from above. For the root r of document 01 n is d × 10^10, where d counts 10^-8 of relative density.
-use Rattle.std.specs.Prelude.{◌≡◌, List, [], ◌∷◌, ◌++◌, cond, ℕ, zero, suc, ◌+◌, ◌*◌, ◌-◌, ◌/◌, ◌^◌, ◌≤◌, leb, ltb, length, take, replicate, Option, None, Some}
-use Rattle.rounding.specs.declared.Rooted.{Rooted}
-use Rattle.rounding.specs.Root.{Root, root}
+use Rattle.std.specs.Prelude.{List, [], ◌∷◌, cond, ℕ, zero, suc, ◌+◌, ◌*◌, ◌-◌, ◌/◌, ◌^◌, ◌≤◌, leb, ltb, length, Option, None, Some}
+use Rattle.rounding.specs.Root.{Root}
 
 -- the candidate after c: the mean of c and n/c, rounded down
 unfoldable pub next_candidate : ℕ → ℕ → ℕ
@@ -59,19 +58,10 @@ pub record RootInRounds (n most : ℕ) (cs : List ℕ) : Type 0 where
   pub rounds : Rounds n (first_candidate n) cs
   pub few : length cs ≤ most
 
--- the most rounds of any number below 2^64, where W-203 allows 40, and for a relative density from 0.062 to 3.9
+-- the most rounds for any n below 2^64, where W-203 allows 40
 abbrev pub most_rounds : ℕ
 most_rounds = 28
 
+-- the most for a relative density from 0.062 to 3.9
 abbrev pub most_rounds_of_gases : ℕ
 most_rounds_of_gases = 6
-
--- what a search answers: the root, how many rounds it took, and the candidates that it tried, in their order, with 0 past them
-pub record Searched (n : ℕ) (found : Rooted) : Type 0 where
-  pub root_is : found.root ≡ root n
-  pub rounds_are : found.rounds ≡ length (candidates n)
-  pub tried_are : found.tried ≡ candidates n ++ replicate (40 - length (candidates n)) 0
-
--- the candidates in that answer
-abbrev pub tried_in : Rooted → List ℕ
-tried_in found = take found.rounds found.tried

@@ -5,7 +5,8 @@ ghost use Rattle.std.specs.Prelude.{◌≡◌, ◌+◌, ◌/◌, ◌^◌, ◌<�
 ghost use Rattle.rounding.specs.Near.{near, near_z};
 ghost use Rattle.rounding.specs.Wide.{Wide, dividend};
 ghost use Rattle.rounding.specs.Root.{root};
-ghost use Rattle.rounding.specs.Search.{next_candidate, first_candidate, round_of, Searched};
+ghost use Rattle.rounding.specs.Search.{next_candidate, first_candidate, round_of};
+ghost use Rattle.rounding.specs.Answers.{Searched};
 
 // The whole number nearest to n / q, halves upward. n is not doubled, so every n has an answer.
 // Every caller knows that its q is above 0, and would have to make a `NonZeroU64` of it.

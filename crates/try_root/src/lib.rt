@@ -4,7 +4,8 @@
 
 ghost use Rattle.std.specs.Prelude.{◌≡◌, is_none, unwrap_or};
 ghost use Rattle.rounding.specs.Root.{root};
-ghost use Rattle.rounding.specs.Search.{first_candidate, round_of, Searched};
+ghost use Rattle.rounding.specs.Search.{first_candidate, round_of};
+ghost use Rattle.rounding.specs.Answers.{Searched};
 ghost use Rattle.try_root.specs.Exports.{rooted};
 
 // The first candidate for the root of n.

@@ -1,9 +1,10 @@
-//! The accepted records with the least and the greatest relative density.
+//! The least and the greatest relative density of an accepted record.
 //!
-//! M and S are linear in the fractions, and d is as M / (1 - (S / 10^10)²), with S
-//! above 0 for every accepted record. Records with d up to some t are those with
-//! M + t (S / 10^10)² up to t, a convex set. So a least d that no small step lowers
-//! is the least of all; and where d is greatest, M + λ S is for some λ ≥ 0.
+//! At one pair of temperatures M and S are linear in the fractions, and d is as
+//! M / (1 - (S / 10^10)²), with S above 0 for every accepted record. Compositions
+//! with d up to some t are those with M + t (S / 10^10)² up to t, a convex set. So
+//! a d that no small step lowers is the least of all; and where d is greatest,
+//! M + λ S is greatest for some λ ≥ 0.
 
 use crate::plain::conditions::Conditions;
 use crate::plain::table::{MASS, TABLE};
@@ -12,38 +13,46 @@ use crate::root_search::density;
 
 const METHANE: u8 = 1;
 
-/// Metering temperature, and entries.
-type Gas = (u8, Vec<(u8, u32)>);
+type Pair = (u8, u8);
 
-/// The least: methane with the two light lines, hydrogen and helium, at their
-/// limits, and the least sum. No step lowers its d.
+type Entries = Vec<(u8, u32)>;
+
+/// The least: that of methane with the two light lines, hydrogen and helium, at
+/// their limits, and the least sum. At no pair a step lowers it.
 pub fn least() -> u64 {
     let entries = vec![(METHANE, 899_900), (41, 50_000), (49, 50_000)];
-    let gas = (20, entries);
-    let d = density(20, 20, &gas.1).expect("the record is accepted");
-    let lower = steps(&gas).find(|other| *other < d);
-    assert_eq!(lower, None, "a lower d than {d}");
-    d
-}
-
-/// The greatest: that of all compositions with the greatest M + λ S.
-pub fn greatest() -> u64 {
-    let heaviest = PAIRS.into_iter().flat_map(|pair| {
-        let compositions = heaviest_at(pair);
-        compositions.into_iter().map(move |entries| {
-            let d = density(pair.0, pair.1, &entries).expect("the record is accepted");
-            (d, (pair.1, entries))
-        })
+    let of_pairs = PAIRS.map(|pair| {
+        let d = accepted(pair, &entries);
+        let lower = steps(pair, &entries).find(|other| *other < d);
+        assert_eq!(lower, None, "{pair:?}: a step from {d}");
+        d
     });
-    let (d, gas) = heaviest.max_by_key(|(d, _)| *d).expect("there are pairs");
-    let higher = steps(&gas).find(|other| *other > d);
-    assert_eq!(higher, None, "a higher d than {d}");
-    d
+    of_pairs.into_iter().min().expect("there are pairs")
 }
 
-/// The accepted densities a step from a gas: 1 ppm from one line to another, 1 ppm
-/// more or less, or none, at each pair.
-fn steps((_, entries): &Gas) -> impl Iterator<Item = u64> {
+/// The greatest: that of the compositions with the greatest M + λ S. At no pair a
+/// step raises it.
+pub fn greatest() -> u64 {
+    let of_pairs = PAIRS.map(|pair| {
+        let heaviest = heaviest_at(pair)
+            .into_iter()
+            .max_by_key(|entries| accepted(pair, entries));
+        let entries = heaviest.expect("there are compositions");
+        let d = accepted(pair, &entries);
+        let higher = steps(pair, &entries).find(|other| *other > d);
+        assert_eq!(higher, None, "{pair:?}: a step from {d}");
+        d
+    });
+    of_pairs.into_iter().max().expect("there are pairs")
+}
+
+fn accepted((combustion, metering): Pair, entries: &[(u8, u32)]) -> u64 {
+    density(combustion, metering, entries).expect("the record is accepted")
+}
+
+/// The densities of the accepted records a step away: 1 ppm from one line to
+/// another, 1 ppm more or less.
+fn steps((combustion, metering): Pair, entries: &[(u8, u32)]) -> impl Iterator<Item = u64> {
     // Line 0 stands for none: a ppm less, or more.
     let mut fractions = [0; 56];
     fractions[0] = 1;
@@ -51,22 +60,18 @@ fn steps((_, entries): &Gas) -> impl Iterator<Item = u64> {
         fractions[usize::from(*line)] = *fraction;
     }
     let exchanges = (0..56).flat_map(|from| (0..56).map(move |to| (from, to)));
-    let moved = exchanges.filter_map(move |(from, to)| {
+    exchanges.filter_map(move |(from, to)| {
         let mut moved = fractions;
         moved[from] = u32::checked_sub(moved[from], 1)?;
         moved[to] += 1;
         let lines = (1..=55).map(|line| (line, moved[usize::from(line)]));
-        Some(lines.filter(|(_, x)| *x > 0).collect::<Vec<_>>())
-    });
-    moved.flat_map(|entries| {
-        PAIRS
-            .into_iter()
-            .filter_map(move |(t1, t2)| density(t1, t2, &entries))
+        let present: Entries = lines.filter(|(_, x)| *x > 0).collect();
+        density(combustion, metering, &present)
     })
 }
 
 /// The compositions with the greatest M + λ S, for every λ ≥ 0.
-fn heaviest_at((combustion, metering): (u8, u8)) -> Vec<Vec<(u8, u32)>> {
+fn heaviest_at((combustion, metering): Pair) -> Vec<Entries> {
     let factor = Conditions::of(combustion, metering)
         .expect("the pair is permitted")
         .factor;
@@ -88,7 +93,7 @@ fn heaviest_at((combustion, metering): (u8, u8)) -> Vec<Vec<(u8, u32)>> {
 }
 
 /// The composition with the greatest sum of fraction times weight.
-fn heaviest(weights: &[f64; 55]) -> Vec<(u8, u32)> {
+fn heaviest(weights: &[f64; 55]) -> Entries {
     let weight = |line: &u8| weights[usize::from(*line) - 1];
     let mut lines: Vec<u8> = (1..=55).filter(|line| weight(line) > 0.0).collect();
     lines.sort_by(|a, b| weight(b).total_cmp(&weight(a)));

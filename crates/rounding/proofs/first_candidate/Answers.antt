@@ -1,7 +1,7 @@
 -- Each return is one case of `first_candidate`.
 use mathlib.Core.Path.{◌∙◌}
 use native.Mathlib.Omega.{arith}
-use borrow.Author.Tests.{lt-ltb, le-ltb}
+use Rattle.std.proofs.lemmas.Bool.{lt-ltb, le-ltb}
 use Rattle.rounding.specs.Search.{next_candidate, first_candidate}
 use Rattle.rounding.proofs.first_candidate.Goals as goal
 

@@ -2,7 +2,7 @@
 use mathlib.Core.Path.{sym, ◌∙◌}
 use native.Mathlib.Omega.{arith}
 use Rattle.rounding.proofs.Newton.{falls}
-use Rattle.rounding.proofs.Search.{told_last, told_next}
+use Rattle.rounding.proofs.Search.{when_none, when_some}
 use Rattle.rounding.proofs.Underway.{begun, ends, again}
 use Rattle.rounding.proofs.root_search.Goals as goal
 
@@ -10,14 +10,14 @@ pub loop-next-init : goal.loop-next-init
 loop-next-init c = begun _ _ (omega arith) c.first_candidate-c.ensures
 
 pub returns-in_default : goal.returns-in_default
-returns-in_default c = rw c.from.ensures (ends (omega arith) c.loop-next.invariant (told_last _ _ (sym c.try_candidate.ensures ∙ c.in_default.is)))
+returns-in_default c = rw c.from.ensures (ends (omega arith) c.loop-next.invariant (when_none _ _ (sym c.try_candidate.ensures ∙ c.in_default.is)))
 
 pub loop-next-smaller : goal.loop-next-smaller
 loop-next-smaller c =
-    let told = told_next _ _ _ (sym c.try_candidate.ensures ∙ c.in-Some.is) in
-    omega (arith, told.1, falls _ _ told.0)
+    let round = when_some _ _ _ (sym c.try_candidate.ensures ∙ c.in-Some.is) in
+    omega (arith, round.1, falls _ _ round.0)
 
 pub loop-next-preserved : goal.loop-next-preserved
 loop-next-preserved c =
-    let told = told_next _ _ _ (sym c.try_candidate.ensures ∙ c.in-Some.is) in
-    rw (← told.1) (again (omega arith) c.loop-next.invariant told.0)
+    let round = when_some _ _ _ (sym c.try_candidate.ensures ∙ c.in-Some.is) in
+    rw (← round.1) (again (omega arith) c.loop-next.invariant round.0)
