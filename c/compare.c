@@ -153,7 +153,12 @@ int main(void)
     make_record();
     compare_calls("first fraction 0");
     annex_d();
+    fractions[0] -= 400000 - fractions[6]; /* the sum stays */
     fractions[6] = 400000;
     make_record();
     compare_calls("nitrogen 400,000");
+    annex_d();
+    fractions[0] += 101;
+    make_record();
+    compare_calls("sum 1,000,101");
 }

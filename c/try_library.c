@@ -277,20 +277,48 @@ static const struct gas gases[] = {
     {LOONSTOOL_WATER_HIGH, 18, 7, 2, 42, 999799, 201},
 };
 
-/* Each number that a record may have. */
+/* Gases whose sum is outside its range too. */
+static const struct gas beside_sum[] = {
+    {LOONSTOOL_METHANE_LOW, 18, 7, 2, 52, 499999, 500},
+    {LOONSTOOL_FRACTION_ABOVE, 18, 7, 2, 52, 924700, 400000},
+    {LOONSTOOL_WATER_HIGH, 18, 7, 2, 42, 999900, 201},
+};
+
+static void try_gas(const struct gas *gas, const char *what)
+{
+    uint8_t record[18] = {'G', 'C', 'R', 1, 0, 15, 15, 2, 1};
+    uint8_t *bytes = bytes_end - gas->length;
+    put_fraction(record + 9, gas->methane);
+    record[13] = gas->line;
+    put_fraction(record + 14, gas->other);
+    record[gas->at] = gas->byte;
+    memcpy(bytes, record, gas->length);
+    expect_refused(bytes, gas->length, gas->number, what);
+}
+
+/* The writer refuses what a gas's record would have after its head, and leaves the buffer. */
+static void try_writing(const struct gas *gas, const char *what)
+{
+    const uint8_t two[2] = {1, gas->line};
+    const uint32_t both[2] = {gas->methane, gas->other};
+    uint8_t *buffer = bytes_end - ROOM;
+    memset(buffer, 0x5a, ROOM);
+    expect(loonstool_write(15, 15, two, 2, both, 2, buffer, ROOM) == gas->number, what, gas->number);
+    expect(all_are(buffer, ROOM, 0x5a), what, gas->number);
+}
+
+/* Each number that a record may have, and those that come before 9 where it holds too. */
 static void try_numbers(void)
 {
     for (size_t i = 0; i < sizeof gases / sizeof *gases; i++) {
-        const struct gas *gas = &gases[i];
-        uint8_t record[18] = {'G', 'C', 'R', 1, 0, 15, 15, 2, 1};
-        uint8_t *bytes = bytes_end - gas->length;
-        put_fraction(record + 9, gas->methane);
-        record[13] = gas->line;
-        put_fraction(record + 14, gas->other);
-        record[gas->at] = gas->byte;
-        memcpy(bytes, record, gas->length);
-        expect(gas->number == i + 1, "the numbers 1 to 12", i);
-        expect_refused(bytes, gas->length, gas->number, "a record for each number");
+        expect(gases[i].number == i + 1, "each number of a record", i);
+        try_gas(&gases[i], "a record for each number");
+    }
+    for (size_t i = LOONSTOOL_LINE_OUTSIDE - 1; i < sizeof gases / sizeof *gases; i++)
+        try_writing(&gases[i], "two entries for each number");
+    for (size_t i = 0; i < sizeof beside_sum / sizeof *beside_sum; i++) {
+        try_gas(&beside_sum[i], "a limit before the sum");
+        try_writing(&beside_sum[i], "a limit before the sum, written");
     }
 }
 

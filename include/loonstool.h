@@ -72,7 +72,8 @@
 extern "C" {
 #endif
 
-/* The numbers that come back: 1 to 12 for a record, 13 to 18 from the meter's calls alone, 19 and 20 from the writer alone. */
+/* The numbers that come back: those up to 12 for a record, 13 to 18 from the meter's calls alone, 19 and 20 from the writer alone. Where
+ * several conditions hold, it is the first in the call's order, in which 9 stands after 10, 11 and 12. */
 enum loonstool_number {
     LOONSTOOL_ACCEPTED = 0,
     LOONSTOOL_RECORD_SHORT = 1,       /* record shorter than 8 bytes */
@@ -143,7 +144,7 @@ LOONSTOOL_MUST_USE
 bool loonstool_meter_check(const struct loonstool_meter *m);
 
 /* Puts the properties of a record of `length` bytes in force on a stream. The first record that is accepted fixes the stream's pair of
- * temperatures. Refused by 13, 1 to 12 and 14, tried in that order; the earlier record then stays in force. */
+ * temperatures. Refused by 13, 1 to 8, 10 to 12, 9 and 14, tried in that order; the earlier record then stays in force. */
 LOONSTOOL_MUST_USE
 uint8_t loonstool_meter_analysis(struct loonstool_meter *m, size_t stream, const uint8_t *bytes, size_t length);
 
@@ -175,7 +176,7 @@ struct loonstool_properties {
     uint64_t w;   /* Wobbe index, unit J/m3, at most 470,000,000 */
 };
 
-/* The properties of a record of `length` bytes. Refused by 1 to 12. */
+/* The properties of a record of `length` bytes. Refused by 1 to 8, 10 to 12 and 9, tried in that order. */
 LOONSTOOL_MUST_USE
 uint8_t loonstool_properties_of(const uint8_t *bytes, size_t length, struct loonstool_properties *properties);
 
@@ -186,18 +187,19 @@ struct loonstool_per_kilogram {
 };
 
 /* The calorific values per kilogram of a record of `length` bytes, to the nearest, halves upward. Of the record's two temperatures only the
- * combustion one matters. Refused by 1 to 12. */
+ * combustion one matters. Refused by 1 to 8, 10 to 12 and 9, tried in that order. */
 LOONSTOOL_MUST_USE
 uint8_t loonstool_per_kilogram(const uint8_t *bytes, size_t length, struct loonstool_per_kilogram *values);
 
 /* Reads a record of `length` bytes: the pair of temperatures in degrees Celsius, the number of entries, and their line numbers and mole
- * fractions in ppm. It fills all LOONSTOOL_LINES places of both arrays, with 0 past the entries. Refused by 1 to 12. */
+ * fractions in ppm. It fills all LOONSTOOL_LINES places of both arrays, with 0 past the entries. Refused by 1 to 8, 10 to 12 and 9, tried in
+ * that order. */
 LOONSTOOL_MUST_USE
 uint8_t loonstool_read(const uint8_t *bytes, size_t length, uint8_t *combustion, uint8_t *metering, size_t *count,
                        uint8_t lines[LOONSTOOL_LINES], uint32_t fractions[LOONSTOOL_LINES]);
 
 /* Writes a record of n entries into the first LOONSTOOL_RECORD_BYTES(n) bytes of a buffer, and no others, n being the length of both
- * lists. Refused by 19, 4, 5, 7 to 12 and 20, tried in that order. */
+ * lists. Refused by 19, 4, 5, 7, 8, 10 to 12, 9 and 20, tried in that order. */
 LOONSTOOL_MUST_USE
 uint8_t loonstool_write(uint8_t combustion, uint8_t metering, const uint8_t *lines, size_t line_count, const uint32_t *fractions,
                         size_t fraction_count, uint8_t *buffer, size_t buffer_length);

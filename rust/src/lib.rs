@@ -175,7 +175,7 @@ extern "sysv64" {
     ) -> u8;
 }
 
-/// The properties of a record. Refused by 1 to 12.
+/// The properties of a record. Refused by 1 to 8, 10 to 12 and 9, tried in that order.
 #[inline]
 pub fn properties_of(bytes: &[u8]) -> Result<Properties, Refusal> {
     let mut properties = MaybeUninit::uninit();
@@ -187,7 +187,7 @@ pub fn properties_of(bytes: &[u8]) -> Result<Properties, Refusal> {
     Ok(unsafe { properties.assume_init() })
 }
 
-/// The calorific values of a record per kilogram. Refused by 1 to 12.
+/// The calorific values of a record per kilogram. Refused by 1 to 8, 10 to 12 and 9, tried in that order.
 #[inline]
 pub fn per_kilogram(bytes: &[u8]) -> Result<PerKilogram, Refusal> {
     let mut values = MaybeUninit::uninit();
@@ -199,7 +199,7 @@ pub fn per_kilogram(bytes: &[u8]) -> Result<PerKilogram, Refusal> {
     Ok(unsafe { values.assume_init() })
 }
 
-/// Reads a record. Refused by 1 to 12.
+/// Reads a record. Refused by 1 to 8, 10 to 12 and 9, tried in that order.
 #[inline]
 pub fn read(bytes: &[u8]) -> Result<Analysis, Refusal> {
     let mut analysis = Analysis {
@@ -226,7 +226,7 @@ pub fn read(bytes: &[u8]) -> Result<Analysis, Refusal> {
 }
 
 /// Writes a record into the first [`record_bytes`] bytes of a buffer and no others, and answers how many they are. Refused by 19, 4,
-/// 5, 7 to 12 and 20, tried in that order; a refusal leaves the buffer as it was.
+/// 5, 7, 8, 10 to 12, 9 and 20, tried in that order; a refusal leaves the buffer as it was.
 #[inline]
 pub fn write(
     combustion: u8,

@@ -150,7 +150,7 @@ impl Meter {
     }
 
     /// Puts the properties of a record in force on a stream. The first record that is accepted fixes the stream's pair of temperatures.
-    /// Refused by 13, 1 to 12 and 14, tried in that order; the earlier analysis then stays in force.
+    /// Refused by 13, 1 to 8, 10 to 12, 9 and 14, tried in that order; the earlier analysis then stays in force.
     #[inline]
     pub fn analysis(&mut self, stream: usize, bytes: &[u8]) -> Result<(), Refusal> {
         // SAFETY: the words are borrowed mutably, the slice is valid for its length, and they do not overlap.

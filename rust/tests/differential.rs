@@ -46,7 +46,9 @@ fn compare_all(run: &Run) -> Result<Vec<String>, String> {
         run.progress(number);
     }
     counts.print();
-    run.print_due("of each refusal of each call, each pair, each line, and of records at two metering temperatures");
+    run.print_due(
+        "of each refusal of each call, of 9 to 12 beside a sum outside its range, each pair, each line, and of records at two metering temperatures",
+    );
     Ok(counts.failures(run))
 }
 
@@ -106,6 +108,9 @@ impl Counts {
         );
         let (line, count) = self.least_line();
         println!("least of the 55 lines in accepted records: line {line}, {count} times");
+        for (of, [nine, ten, eleven, twelve]) in self.limits.outside() {
+            println!("{of} with a sum outside its range: {nine} refused by 9, {ten} by 10, {eleven} by 11, {twelve} by 12");
+        }
         let (name, count) = self.limits.least();
         println!("least of the limits, met and passed by one: {name}, {count} times");
     }
@@ -128,6 +133,15 @@ impl Counts {
         let (line, count) = self.least_line();
         if count < due {
             failures.push(format!("line {line} only {count} times"));
+        }
+        for (of, counts) in self.limits.outside() {
+            for (number, count) in (9..=12).zip(counts) {
+                if count < due {
+                    failures.push(format!(
+                        "{of} with a sum outside its range, refused by {number}, only {count} times"
+                    ));
+                }
+            }
         }
         let (name, count) = self.limits.least();
         if count < run.due_of_limits() {

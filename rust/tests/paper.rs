@@ -89,6 +89,23 @@ fn records_and_each_number() {
     assert_eq!(seen, [true; 13]);
 }
 
+/// The analysis call refuses a record by the same number, on any stream.
+#[test]
+fn records_on_a_meter() {
+    for (title, record, number) in cases::records() {
+        let expected = Answer::Changed(match number {
+            0 => Ok(()),
+            _ => Err(number),
+        });
+        for mut meter in fresh_meters() {
+            for stream in [0, 15] {
+                let answer = meter.answer(&analysis(stream, "", &record));
+                assert_eq!(answer, expected, "{title}");
+            }
+        }
+    }
+}
+
 /// An accepted record that was read has the same bytes where it is written
 /// again, and is not written into a buffer that is a byte short.
 fn written_again(record: &[u8], read: &Analysis) {
@@ -105,7 +122,8 @@ fn written_again(record: &[u8], read: &Analysis) {
 #[test]
 fn gases_written_and_read_again() {
     let further = cases::further().into_iter().map(|(_, gas)| gas);
-    for gas in cases::of_paper().into_iter().chain(further) {
+    let refused = cases::of_paper().into_iter().chain(cases::on_limits());
+    for gas in refused.chain(further) {
         let (lines, fractions): (Vec<u8>, Vec<u32>) = gas.entries.iter().copied().unzip();
         let mut out = [170; 300];
         let answer = write(gas.pair.0, gas.pair.1, &lines, &fractions, &mut out);
@@ -122,14 +140,18 @@ fn gases_written_and_read_again() {
     }
 }
 
-/// What the plain meter, the tally and the library read after the calls of K9.
-fn k9() -> [Reading; 3] {
-    let meters: [Box<dyn TakesCalls>; 3] = [
+/// The plain meter, the tally and the library's meter.
+fn fresh_meters() -> [Box<dyn TakesCalls>; 3] {
+    [
         Box::new(plain::Meter::fresh()),
         Box::new(plain::Tally::fresh()),
         Box::new(loonstool::Meter::default()),
-    ];
-    meters.map(|mut meter| {
+    ]
+}
+
+/// What each of them reads after the calls of K9.
+fn k9() -> [Reading; 3] {
+    fresh_meters().map(|mut meter| {
         let metering = call(b'm', 0, 1_000);
         assert_eq!(meter.answer(&metering), Answer::Changed(Err(16)));
         for accepted in [analysis(0, "", &K2), metering] {
@@ -248,13 +270,13 @@ fn writer_refusals() {
     assert_eq!(write(15, 15, &[], &[1], &mut out), Err(19));
     assert_eq!(write(15, 15, &[0], &[0], &mut out), Err(7));
     assert_eq!(write(15, 15, &[1], &[0], &mut out), Err(8));
-    assert_eq!(write(15, 15, &[1], &[1], &mut out), Err(9));
     assert_eq!(write(15, 15, &[2], &[1_000_000], &mut out), Err(10));
     let lines = [1, 3];
     assert_eq!(write(15, 15, &lines, &[940_000, 60_000], &mut out), Err(11));
     let lines = [1, 42];
     let wet = [999_799, 201];
     assert_eq!(write(15, 15, &lines, &wet, &mut out[..3]), Err(12));
+    assert_eq!(write(15, 15, &[1], &[999_899], &mut []), Err(9));
     let dry = [999_800, 200];
     assert_eq!(write(15, 15, &lines, &dry, &mut []), Err(20));
     assert_eq!(write(15, 15, &lines, &dry, &mut out[..17]), Err(20));
@@ -264,13 +286,11 @@ fn writer_refusals() {
 
 #[test]
 fn lists_that_are_no_gas() {
-    let all: Vec<u8> = (1..=55).collect();
-    let lists: [(u8, &[u8], &[u32]); 5] = [
-        (9, &[1, 2], &[u32::MAX, 1_000_001]),
+    let lists: [(u8, &[u8], &[u32]); 4] = [
+        (11, &[1, 2], &[u32::MAX, 1_000_001]),
         (7, &[1, 2, 2], &[0, 999_999, 1]),
         (19, &[1, 2], &[1_000_000]),
         (5, &[1; 56], &[1; 56]),
-        (9, &all, &[u32::MAX; 55]),
     ];
     let mut out = [170; 300];
     for (number, lines, fractions) in lists {

@@ -5,3 +5,4 @@ mod Means
 pub mod Kept
 mod Analyses
 pub mod Outcomes
+mod LimitBeforeSum

@@ -63,7 +63,7 @@ totals_order k = (13, stream_above k) ∷ []
 abbrev pub mean_order : ℕ → Stream → Order
 mean_order k s = (13, stream_above k) ∷ zero_order (total_zero s.totals.volume)
 
--- analysis tries 13, 1 to 12, 14; metering 13, 15, 16, 17; totals 13; each mean 13, 18
+-- analysis tries 13, 1 to 8, 10 to 12, 9, 14; metering 13, 15, 16, 17; totals 13; each mean 13, 18
 abbrev pub AnalysisNumbers : Type 0
 AnalysisNumbers = (k : ℕ) (bs : List ℕ) (s : Stream) → numbers_of (analysis_order k bs s) ≡ 13 ∷ record_numbers ++ (14 ∷ [])
 

@@ -4,3 +4,4 @@ pub mod Conditions
 pub mod Calls
 pub mod Answers
 pub mod Kept
+pub mod LimitBeforeSum

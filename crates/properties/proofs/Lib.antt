@@ -7,3 +7,4 @@ pub mod Gas
 pub mod Outcomes
 pub mod Summing
 mod Rounds
+mod LimitBeforeSum

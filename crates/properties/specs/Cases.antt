@@ -1,9 +1,10 @@
 -- The cases of document 01 that print properties, further gases, and values per kilogram: lists and tests that compute.
 use Rattle.std.specs.Prelude.{◌≡◌, Bool, true, ◌&&◌, List, [], ◌∷◌, ℕ, eqb, replicate}
 use Rattle.components.specs.Tests.{all}
-use Rattle.records.specs.Order.{accepted, mapped}
+use Rattle.records.specs.Order.{refused, accepted, mapped}
 use Rattle.records.specs.Format.{Contents, contents, bytes_of}
-use Rattle.records.specs.Cases.{same_outcome, annex_d, k2, full_gas, up_from}
+use Rattle.records.specs.Cases.{same_outcome, annex_d, k2, full_gas, up_from, limit_cases}
+use Rattle.records.specs.Cases as on-record
 use Rattle.properties.specs.Chain.{Six, properties_of}
 use Rattle.properties.specs.PerKilogram.{MassBasis, per_kilogram_of}
 
@@ -98,3 +99,8 @@ per_kilogram_gases =
 
 abbrev pub PerKilogramGasesHold : Type 0
 PerKilogramGasesHold = all (λ (c : Contents × MassBasis). same_outcome same_per_kilogram (per_kilogram_of (bytes_of c.0)) (accepted c.1)) per_kilogram_gases ≡ true
+
+-- the limits and the sum: the properties and the values per kilogram are refused by the number that the record has
+abbrev pub LimitsRefused : Type 0
+LimitsRefused =
+    all (λ (c : on-record.Case). same_outcome same_six (properties_of c.bytes) (refused c.number) && same_outcome same_per_kilogram (per_kilogram_of c.bytes) (refused c.number)) limit_cases ≡ true

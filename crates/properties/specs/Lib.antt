@@ -7,4 +7,5 @@ pub mod PerKilogram
 pub mod Accepted
 pub mod Rounds
 pub mod Answers
+pub mod LimitBeforeSum
 pub mod Cases

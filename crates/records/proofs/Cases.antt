@@ -3,7 +3,7 @@ use mathlib.Core.Path.{refl}
 use Rattle.components.specs.Composition.{total, fraction_for}
 use Rattle.records.specs.Format.{lines_of, fractions_of, entries_bytes}
 use Rattle.records.specs.Conditions.{line_breaks, fraction_zero, any_above}
-use Rattle.records.specs.Cases.{same_list, same_outcome, up_from, CasesHold, FullGasHolds, PairsHold, LimitsHold, DamagedRefused, WritesRefused, BuffersHold}
+use Rattle.records.specs.Cases.{same_list, same_outcome, up_from, CasesHold, FullGasHolds, PairsHold, LimitCasesHold, LimitsHold, DamagedRefused, WritesRefused, BuffersHold}
 
 pub cases_hold : CasesHold
 unfolding same_list same_outcome lines_of fractions_of entries_bytes line_breaks fraction_zero any_above total fraction_for
@@ -16,6 +16,10 @@ full_gas_holds = refl
 pub pairs_hold : PairsHold
 unfolding same_list same_outcome lines_of fractions_of entries_bytes line_breaks fraction_zero any_above total fraction_for
 pairs_hold = refl
+
+pub limit_cases_hold : LimitCasesHold
+unfolding same_list same_outcome up_from lines_of fractions_of entries_bytes line_breaks fraction_zero any_above total fraction_for
+limit_cases_hold = refl
 
 pub limits_hold : LimitsHold
 unfolding same_list same_outcome up_from lines_of fractions_of entries_bytes line_breaks fraction_zero any_above total fraction_for

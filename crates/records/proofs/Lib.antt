@@ -10,3 +10,4 @@ pub mod Accepted
 pub mod FirstBytes
 mod Cases
 mod Numbers
+pub mod LimitBeforeSum

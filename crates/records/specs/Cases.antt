@@ -44,6 +44,10 @@ given k n = record { contents = k; bytes = bytes_of k; number = n }
 abbrev pub annex_d : ℕ → ℕ → Contents
 annex_d c m = contents c m (1 ∷ 2 ∷ 3 ∷ 4 ∷ 5 ∷ 6 ∷ 52 ∷ 54 ∷ []) (924700 ∷ 35000 ∷ 9800 ∷ 2200 ∷ 3400 ∷ 600 ∷ 17500 ∷ 6800 ∷ [])
 
+-- the same with nitrogen at 400,000, which takes the sum to 1,382,500
+abbrev pub nitrogen_high : Contents
+nitrogen_high = contents 15 15 (1 ∷ 2 ∷ 3 ∷ 4 ∷ 5 ∷ 6 ∷ 52 ∷ 54 ∷ []) (924700 ∷ 35000 ∷ 9800 ∷ 2200 ∷ 3400 ∷ 600 ∷ 400000 ∷ 6800 ∷ [])
+
 -- the record of K2, as printed
 abbrev pub k2 : List ℕ
 k2 = 0x47 ∷ 0x43 ∷ 0x52 ∷ 0x01 ∷ 0x00 ∷ 0x0F ∷ 0x0F ∷ 0x01 ∷ 0x01 ∷ 0x40 ∷ 0x42 ∷ 0x0F ∷ 0x00 ∷ []
@@ -76,6 +80,23 @@ up_from (suc n) from = from ∷ up_from n (from + 1)
 -- each of the 55 lines
 abbrev pub all_lines : List ℕ
 all_lines = up_from 55 1
+
+-- the numbers 10, 11 and 12, each beside 9 and beside those after it; and 9 alone, with methane, ethane, water, nitrogen and carbon dioxide
+-- on their limits, and with sums of 2^32 - 1 and of 2^32 + 1,000,000
+abbrev pub limit_cases : List Case
+limit_cases =
+    given nitrogen_high 11
+    ∷ given (contents 15 15 (1 ∷ []) (499999 ∷ [])) 10
+    ∷ given (contents 15 15 (2 ∷ []) (1000000 ∷ [])) 10  -- no methane; 10 before 11
+    ∷ given (contents 15 15 (1 ∷ 42 ∷ 52 ∷ []) (499999 ∷ 201 ∷ 400000 ∷ [])) 10  -- 9, 10, 11 and 12 hold
+    ∷ given (contents 15 15 (1 ∷ 42 ∷ 55 ∷ []) (949798 ∷ 201 ∷ 50001 ∷ [])) 11  -- 11 before 12
+    ∷ given (contents 15 15 (1 ∷ 42 ∷ 52 ∷ []) (600000 ∷ 201 ∷ 400000 ∷ [])) 11  -- 9, 11 and 12 hold
+    ∷ given (contents 15 15 all_lines (replicate 55 4294967295)) 11
+    ∷ given (contents 15 15 (1 ∷ 42 ∷ []) (999900 ∷ 201 ∷ [])) 12
+    ∷ given (contents 15 15 (1 ∷ 2 ∷ 42 ∷ 52 ∷ 54 ∷ []) (500000 ∷ 150000 ∷ 200 ∷ 300000 ∷ 150000 ∷ [])) 9
+    ∷ given (contents 15 15 (1 ∷ []) (4294967295 ∷ [])) 9
+    ∷ given (contents 15 15 (1 ∷ 2 ∷ up_from 9 3 ++ (52 ∷ 54 ∷ [])) (4294967295 ∷ 150000 ∷ 1 ∷ replicate 8 50000 ++ (300000 ∷ 150000 ∷ []))) 9
+    ∷ []
 
 -- a gas with each of them, 1,000,000 in all
 abbrev pub full_gas : Contents
@@ -141,12 +162,7 @@ damaged =
     ∷ (bytes_of (contents 15 15 (1 ∷ 3 ∷ 2 ∷ []) (999998 ∷ 1 ∷ 1 ∷ [])), 7)
     ∷ (bytes_of (contents 15 15 (1 ∷ 2 ∷ 2 ∷ []) (0 ∷ 999999 ∷ 1 ∷ [])), 7)  -- 7 over all entries before 8
     ∷ (bytes_of (contents 15 15 (1 ∷ 2 ∷ []) (1000000 ∷ 0 ∷ [])), 8)
-    ∷ (bytes_of (contents 15 15 (1 ∷ 2 ∷ []) (1 ∷ 0 ∷ [])), 8)  -- 8 before 9
-    ∷ (bytes_of (contents 15 15 all_lines (replicate 55 4294967295)), 9)
-    ∷ (bytes_of (contents 15 15 (1 ∷ 2 ∷ []) (4294967295 ∷ 1000001 ∷ [])), 9)  -- 2^32 + 1,000,000 in all
-    ∷ (bytes_of (contents 15 15 (1 ∷ 52 ∷ []) (600101 ∷ 400000 ∷ [])), 9)  -- 9 before 11
-    ∷ (bytes_of (contents 15 15 (2 ∷ []) (1000000 ∷ [])), 10)  -- no methane; 10 before 11
-    ∷ (bytes_of (contents 15 15 (1 ∷ 42 ∷ 55 ∷ []) (949798 ∷ 201 ∷ 50001 ∷ [])), 11)  -- 11 before 12
+    ∷ (bytes_of (contents 15 15 (1 ∷ 2 ∷ []) (1 ∷ 0 ∷ [])), 8)  -- 8 before 10
     ∷ []
 
 -- contents, the size of a buffer, and the number that refuses the writing
@@ -179,6 +195,9 @@ FullGasHolds = case_holds (given full_gas 0) ≡ true
 abbrev pub PairsHold : Type 0
 PairsHold =
     (case_holds two_temperatures && all (λ (p : ℕ × (ℕ × ℕ)). case_holds (given (contents p.0 p.1.0 (1 ∷ []) (1000000 ∷ [])) p.1.1)) pairs) ≡ true
+
+abbrev pub LimitCasesHold : Type 0
+LimitCasesHold = all case_holds limit_cases ≡ true
 
 abbrev pub LimitsHold : Type 0
 LimitsHold = (limit_holds 300000 11 52 && limit_holds 150000 11 2 && limit_holds 150000 11 54 && limit_holds 200 12 42 && all (limit_holds 50000 11) other_lines) ≡ true

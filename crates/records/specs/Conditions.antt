@@ -108,15 +108,15 @@ room_short room n = ltb room (record_length n)
 abbrev pub fields_order : Bool → Bool → Bool → Bool → Bool → Order
 fields_order two three four five six = (2, two) ∷ (3, three) ∷ (4, four) ∷ (5, five) ∷ (6, six) ∷ []
 
--- 9 to 12, from whether each of them holds
+-- 10, 11, 12 and 9, from whether each of them holds
 abbrev pub limits_order : Bool → Bool → Bool → Bool → Order
-limits_order nine ten eleven twelve = (9, nine) ∷ (10, ten) ∷ (11, eleven) ∷ (12, twelve) ∷ []
+limits_order nine ten eleven twelve = (10, ten) ∷ (11, eleven) ∷ (12, twelve) ∷ (9, nine) ∷ []
 
 -- 19, 4 and 5, from whether each of them holds
 abbrev pub lists_order : Bool → Bool → Bool → Order
 lists_order nineteen four five = (19, nineteen) ∷ (4, four) ∷ (5, five) ∷ []
 
--- 7, and 8 to 12, of line numbers and fractions
+-- 7, and 8, 10 to 12 and 9, of line numbers and fractions
 abbrev pub lines_order : List ℕ → Order
 lines_order ls = (7, line_breaks 0 ls) ∷ []
 
@@ -125,7 +125,7 @@ fractions_order ls xs =
     (8, fraction_zero xs)
     ∷ limits_order (sum_outside (total xs)) (methane_low (fraction_for methane ls xs)) (any_above ls xs) (water_high (fraction_for water ls xs))
 
--- the order of a record, in two parts: 1 to 6, and 7 to 12, which the writer shares
+-- the order of a record, in two parts: 1 to 6, and 7, 8, 10 to 12 and 9, which the writer shares
 abbrev pub head_order : List ℕ → Order
 head_order bs =
     (1, too_short bs)
@@ -137,7 +137,7 @@ content_order ls xs = lines_order ls ++ fractions_order ls xs
 abbrev pub record_order : List ℕ → Order
 record_order bs = head_order bs ++ content_order (lines_in bs) (fractions_in bs)
 
--- the order of the writer, in three parts: 19, 4 and 5; 7 to 12; 20 for a buffer of room bytes
+-- the order of the writer, in three parts: 19, 4 and 5; 7, 8, 10 to 12 and 9; 20 for a buffer of room bytes
 abbrev pub start_order : Contents → Order
 start_order k = lists_order (lists_differ k.lines k.fractions) (pair_refused k.combustion k.metering) (count_outside (length k.lines))
 
@@ -153,7 +153,7 @@ given_order k = start_order k ++ content_order k.lines k.fractions
 
 -- the numbers of the content, and of a record, in the order in which they are tried
 abbrev pub content_numbers : List ℕ
-content_numbers = 7 ∷ 8 ∷ 9 ∷ 10 ∷ 11 ∷ 12 ∷ []
+content_numbers = 7 ∷ 8 ∷ 10 ∷ 11 ∷ 12 ∷ 9 ∷ []
 
 abbrev pub record_numbers : List ℕ
 record_numbers = 1 ∷ 2 ∷ 3 ∷ 4 ∷ 5 ∷ 6 ∷ content_numbers

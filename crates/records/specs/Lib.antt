@@ -8,3 +8,4 @@ pub mod Answers
 pub mod RoundTrips
 pub mod Accepted
 pub mod Cases
+pub mod LimitBeforeSum

@@ -97,7 +97,7 @@ impl<'a> Record<'a> {
     ghost use Rattle.records.specs.Format.{combustion_in, metering_in};
     ghost use Rattle.records.specs.Conditions.{record_order};
 
-    // The record in a list of bytes, or why it is refused: the first of 1 to 12 that holds.
+    // The record in a list of bytes, or why it is refused: the first that holds of 1 to 8, 10 to 12 and 9.
     pub fn new(bytes: &'a [u8]) -> Result<Self, Refusal>
         ensures number { number_in result ≡ first_of (record_order bytes.now) }
         ensures same { IfOk result (λ r. r.bytes.now ≡ bytes.now) }

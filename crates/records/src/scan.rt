@@ -1,5 +1,5 @@
-// The entry scan: 7 in a search over the line numbers, then 8 to 12 in one over the fractions. The first entry that breaks 7 ends the first
-// search, and the first fraction of 0 the second.
+// The entry scan: 7 in a search over the line numbers, then 8, 10 to 12 and 9 in one over the fractions. The first entry that breaks 7 ends
+// the first search, and the first fraction of 0 the second.
 ghost use Rattle.std.specs.Prelude.{◌≡◌, false, ◌||◌, cond, ◌+◌, ◌^◌, ◌≤◌, ◌<◌, eqb, leb, ltb, length};
 ghost use Rattle.records.specs.Order.{first_of};
 ghost use Rattle.records.specs.Refusals.{number_in};
@@ -16,7 +16,7 @@ const MOST_SUM: u64 = 1000100;
 
 const LEAST_METHANE: u32 = 500000;
 
-// What 9 to 12 need of the entries so far: the sum of the fractions, the fractions of methane and of water, 0 where absent as document 01
+// What 10 to 12 and 9 need of the entries so far: the sum of the fractions, the fractions of methane and of water, 0 where absent as document 01
 // has it, and whether another line is above its limit.
 #[derive(Clone, Copy, Default)]
 struct Scan {
@@ -44,13 +44,10 @@ impl Scan {
         }
     }
 
-    // 9 to 12, after the last entry.
+    // 10 to 12 and 9, after the last entry.
     fn check(self) -> Result<(), Refusal>
         ensures { number_in result ≡ first_of (limits_order (sum_outside self.sum) (methane_low self.methane) self.above (water_high self.water)) }
     {
-        if self.sum < LEAST_SUM || MOST_SUM < self.sum {
-            return Err(Refusal::SumOutside);
-        }
         if self.methane < LEAST_METHANE {
             return Err(Refusal::MethaneLow);
         }
@@ -59,6 +56,9 @@ impl Scan {
         }
         if conditions::limit_of(conditions::WATER) < self.water {
             return Err(Refusal::WaterHigh);
+        }
+        if self.sum < LEAST_SUM || MOST_SUM < self.sum {
+            return Err(Refusal::SumOutside);
         }
         Ok(())
     }
@@ -97,7 +97,7 @@ fn check_lines<E: Entries>(entries: &E) -> Result<(), Refusal>
     }
 }
 
-// 8 to 12, where 7 does not hold.
+// 8, 10 to 12 and 9, where 7 does not hold.
 fn check_fractions<E: Entries>(entries: &E) -> Result<(), Refusal>
     requires { line_breaks 0 (E.lines entries.now) ≡ false }
     ensures { number_in result ≡ first_of (fractions_order (E.lines entries.now) (E.fractions entries.now)) }
@@ -115,7 +115,7 @@ fn check_fractions<E: Entries>(entries: &E) -> Result<(), Refusal>
     }
 }
 
-// 7 to 12.
+// 7, 8, 10 to 12 and 9.
 pub fn check_content<E: Entries>(entries: &E) -> Result<(), Refusal>
     ensures { number_in result ≡ first_of (content_order (E.lines entries.now) (E.fractions entries.now)) }
 {

@@ -5,7 +5,7 @@ use Rattle.components.specs.Table.{entry_of}
 use Rattle.components.specs.Table as table
 use Rattle.components.specs.Rule.{atoms_of, water_heat, allowance, excess}
 use Rattle.components.specs.Tests.{all}
-use Rattle.records.specs.Order.{refused, accepted, mapped}
+use Rattle.records.specs.Order.{refused, accepted, decided, mapped}
 use Rattle.records.specs.Format.{bytes_of}
 use Rattle.records.specs.Cases.{same_list, same_outcome, annex_d, k2}
 use Rattle.records.specs.Cases as on-record
@@ -40,6 +40,11 @@ pub data Case : Type 0 where
 abbrev pub each_number : List on-record.Case → List Case → List Case
 each_number [] more = more
 each_number (c ∷ cs) more = number c ∷ each_number cs more
+
+-- the analysis of the record of each on the stream 0 of a fresh meter, which the number refuses
+abbrev pub each_analysis : List on-record.Case → List Case → List Case
+each_analysis [] more = more
+each_analysis (c ∷ cs) more = calls ((on 0 (analysis c.bytes), decided c.number done) ∷ []) ∷ each_analysis cs more
 
 -- K2's totals after 1,000 dm³: volume and superior energy are K9's, the inferior energy and the mass are computed; and after 2,000 dm³,
 -- where the mass has passed 1 kg
@@ -83,8 +88,9 @@ cases =
     ∷ (on 15 (metering 1000), accepted done)
     ∷ (on 15 totals, accepted (totals_are after2000))
     ∷ [])  -- computed: K2's inferior energy, its mean and the mass, with 18 before the volume and 13 past the last stream
-    ∷ rule (record { line = 23; place = 0; superior = 2700200; inferior = 2524100; twice = 352200; atoms = 8; water = 44016; product = 352128 })  -- K10
-    ∷ [])
+    ∷ each_analysis on-record.limit_cases  -- 10, 11 and 12 before 9
+    (rule (record { line = 23; place = 0; superior = 2700200; inferior = 2524100; twice = 352200; atoms = 8; water = 44016; product = 352128 })  -- K10
+    ∷ []))
 
 -- the same answer: the number of a refusal, or the figures that are given
 abbrev pub figures_of : Given → List ℕ

@@ -144,8 +144,8 @@ would_pass total v = ltb most_total (total + v)
 abbrev pub no_volume : ℕ → Bool
 no_volume total = eqb total 0
 
--- the conditions in the call's order, on the stream k with the tally's own pair, record and V: analysis 13, 1 to 12, 14; metering
--- 13, 15, 16, 17; totals 13; each mean 13, 18
+-- the conditions in the call's order, on the stream k with the tally's own pair, record and V: analysis 13, 1 to 8, 10 to 12, 9, 14;
+-- metering 13, 15, 16, 17; totals 13; each mean 13, 18
 abbrev pub order_of : ℕ → Ask → StreamTally → Order
 order_of k (analysis bs) s = (13, above_last k) ∷ record_order bs ++ ((14, other_pair s.pair (combustion_in bs) (metering_in bs)) ∷ [])
 order_of k (metering v) s = (13, above_last k) ∷ (15, large_volume v) ∷ (16, no_record s.in_force) ∷ (17, would_pass s.volume v) ∷ []

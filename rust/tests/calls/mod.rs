@@ -93,9 +93,9 @@ impl TakesCalls for loonstool::Meter {
     }
 }
 
-/// Lists of calls, each from a fresh meter: K9; each of 13 to 18, some where a later condition of the order holds too; the carry from the
-/// rest to the whole MJ, of the superior energy and then of the inferior one, and from the rest to the whole kg; two gases on one stream;
-/// and a stream that is full.
+/// Lists of calls, each from a fresh meter: K9; each of 13 to 18, some where a later condition of the order holds too; 9, and 11 where 9
+/// holds too; the carry from the rest to the whole MJ, of the superior energy and then of the inferior one, and from the rest to the
+/// whole kg; two gases on one stream; and a stream that is full.
 #[rustfmt::skip]
 pub fn lists() -> Vec<Vec<Call>> {
     let (m, r) = (|k, volume| call(b'm', k, volume), |k| call(b'r', k, 0));
@@ -103,11 +103,12 @@ pub fn lists() -> Vec<Vec<Call>> {
     let at_0 = |k| analysis(k, " 0/0", &record(0, 0, &methane_and(&[])));
     let little = |k| analysis(k, " 0/0, methane 999,899", &record(0, 0, &[(1, 999_899)]));
     let nitrogen = |k| analysis(k, " nitrogen 300,000", &record(15, 15, &methane_and(&[(52, 300_000)])));
+    let above = |k| analysis(k, " nitrogen 400,000", &record(15, 15, &[(1, 924_700), (52, 400_000)]));
     vec![
         vec![m(0, 1_000), k2(0), m(0, 1_000), r(0)],
         vec![analysis(16, " no record", &[]), m(16, 10_000_001), r(usize::MAX)],
         vec![m(15, u64::MAX), m(15, 10_000_000), k2(15), m(15, 10_000_001), m(15, 0), r(15), m(15, 10_000_000), r(15), r(14)],
-        vec![k2(3), at_0(3), little(3), at_0(4), m(3, 27), m(4, 27), r(3), r(4)],
+        vec![k2(3), at_0(3), little(3), above(3), at_0(4), m(3, 27), m(4, 27), r(3), r(4)],
         vec![k2(7), m(7, 26), r(7), nitrogen(7), m(7, 1), r(7), m(7, 4), r(7), m(7, 1_176), r(7), m(7, 1), r(7)],
         vec![k2(9), call(b'f', 9, 0), r(9), m(9, 10_000_000), m(9, 9_999_999), m(9, 1), m(9, 10_000_001), m(9, 0), r(9)],
     ]

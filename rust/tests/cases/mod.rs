@@ -89,6 +89,48 @@ pub fn of_paper() -> Vec<Gas> {
     ]
 }
 
+/// The gases of `limit_cases` in crates/records/specs/Cases.antt: 10, 11 and 12, each beside 9 and beside those after it, and 9 alone.
+pub fn on_limits() -> Vec<Gas> {
+    let gas = |title, number, entries: &[_]| Gas::new(title, (15, 15), entries.to_vec(), number);
+    let mut nitrogen_high = K1;
+    nitrogen_high[6].1 = 400_000;
+    let heavy = (3..=11).map(|line| (line, if line == 3 { 1 } else { 50_000 }));
+    let filled: Vec<_> = [(1, u32::MAX), (2, 150_000)]
+        .into_iter()
+        .chain(heavy)
+        .chain([(52, 300_000), (54, 150_000)])
+        .collect();
+    let full: Vec<_> = (1..=55).map(|line| (line, u32::MAX)).collect();
+    let at_limits = [
+        (1, 500_000),
+        (2, 150_000),
+        (42, 200),
+        (52, 300_000),
+        (54, 150_000),
+    ];
+    vec![
+        gas("nitrogen 400,000", 11, &nitrogen_high),
+        gas("methane 499,999 alone", 10, &[(1, 499_999)]),
+        gas("no methane", 10, &[(2, 1_000_000)]),
+        gas(
+            "9, 10, 11 and 12",
+            10,
+            &[(1, 499_999), (42, 201), (52, 400_000)],
+        ),
+        gas("11 and 12", 11, &[(1, 949_798), (42, 201), (55, 50_001)]),
+        gas(
+            "9, 11 and 12",
+            11,
+            &[(1, 600_000), (42, 201), (52, 400_000)],
+        ),
+        gas("the most of every line", 11, &full),
+        gas("9 and 12", 12, &[(1, 999_900), (42, 201)]),
+        gas("9 with five lines on their limits", 9, &at_limits),
+        gas("methane 2^32 - 1", 9, &[(1, u32::MAX)]),
+        gas("2^32 + 1,000,000 in all", 9, &filled),
+    ]
+}
+
 /// A gas with its title, its name in crates/properties/specs/Cases.antt, its pair and its entries.
 type Named = (&'static str, &'static str, (u8, u8), Vec<(u8, u32)>);
 
@@ -179,11 +221,11 @@ pub fn records() -> Vec<(String, Vec<u8>, u8)> {
         ("55 entries and more bytes", many(55), 6),
         ("fraction 0", record(15, 15, &[(1, 0)]), 8),
         ("fraction 0 last", beside(1_000_000, 0), 8),
-        ("2^32 + 1,000,000 in all", beside(u32::MAX, 1_000_001), 9),
-        ("no methane", record(15, 15, &[(52, 1_000_000)]), 10),
     ];
-    let gases = further().into_iter().map(|(_, gas)| gas).chain(of_paper());
+    let gases = further().into_iter().map(|(_, gas)| gas);
     gases
+        .chain(of_paper())
+        .chain(on_limits())
         .map(|gas| (gas.title.clone(), gas.record(), gas.number))
         .chain(others.map(|(title, bytes, number)| (title.to_string(), bytes, number)))
         .collect()

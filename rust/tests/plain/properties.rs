@@ -22,13 +22,13 @@ use std::ops::{Add, Div};
 const GIGA: u64 = 1_000_000_000;
 const MEGA: u64 = 1_000_000;
 
-/// The properties of a record, refused by 1 to 12.
+/// The properties of a record, or the number that refuses it.
 pub fn properties_of(record: &[u8]) -> Result<Properties, u8> {
     let (sums, conditions) = sums_of(record)?;
     Ok(sums.properties(&conditions))
 }
 
-/// The calorific values of a record per kilogram, refused by 1 to 12.
+/// The calorific values of a record per kilogram, or the number that refuses it.
 pub fn per_kilogram(record: &[u8]) -> Result<PerKilogram, u8> {
     let (sums, _) = sums_of(record)?;
     let value = |hm| near(hm * MEGA, sums.mass);

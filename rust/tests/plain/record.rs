@@ -30,7 +30,7 @@ impl Checked<'_> {
     }
 }
 
-/// Checks a record, conditions 1 to 12.
+/// Checks a record: conditions 1 to 8, then 10 to 12, then 9.
 pub fn check(record: &[u8]) -> Result<Checked<'_>, u8> {
     let (header, body) = record.split_first_chunk::<HEADER>().ok_or(1)?;
     let [m0, m1, m2, v0, v1, combustion, metering, count] = *header;
@@ -114,8 +114,9 @@ fn check_count(count: usize) -> Result<(), u8> {
     }
 }
 
-/// Checks line numbers and fractions, conditions 7 to 12. A line number that
-/// breaks 7 refuses at once; the later conditions hold over all entries.
+/// Checks line numbers and fractions: conditions 7 and 8, then 10 to 12, then
+/// 9. A line number that breaks 7 refuses at once; the others are of all
+/// entries.
 fn check_entries(entries: impl Iterator<Item = (u8, u32)>) -> Result<(), u8> {
     let mut before = 0;
     let mut zero = false;
@@ -139,9 +140,6 @@ fn check_entries(entries: impl Iterator<Item = (u8, u32)>) -> Result<(), u8> {
     if zero {
         return Err(8);
     }
-    if !(999_900..=1_000_100).contains(&sum) {
-        return Err(9);
-    }
     if methane < 500_000 {
         return Err(10);
     }
@@ -150,6 +148,9 @@ fn check_entries(entries: impl Iterator<Item = (u8, u32)>) -> Result<(), u8> {
     }
     if water > 200 {
         return Err(12);
+    }
+    if !(999_900..=1_000_100).contains(&sum) {
+        return Err(9);
     }
     Ok(())
 }

@@ -1,0 +1,21 @@
+-- What it changes in the analysis call that 10, 11 and 12 are tried before 9 (crates/records/specs/LimitBeforeSum.antt): on every meter,
+-- and for every stream and record, some numbers of refusals, and nothing of what is accepted or of the meter after the call.
+use Rattle.std.specs.Prelude.{◌≡◌, List, ◌∷◌, ◌++◌, ℕ}
+use Rattle.records.specs.Order.{Order, Outcome, first_of, decided}
+use Rattle.records.specs.Format.{combustion_in, metering_in}
+use Rattle.records.specs.LimitBeforeSum.{former_record_order, record_limit, limit_first}
+use Rattle.meter.specs.declared.Meter.{Meter}
+use Rattle.meter.specs.declared.Stream.{Stream}
+use Rattle.meter.specs.State.{stream_at, with_stream}
+use Rattle.meter.specs.Conditions.{stream_above, pair_differs, pair_order}
+use Rattle.meter.specs.Calls.{analysed, analysis_of}
+
+-- the former order, and what the call gave by it
+abbrev pub former_analysis_order : ℕ → List ℕ → Stream → Order
+former_analysis_order k bs s = (13, stream_above k) ∷ former_record_order bs ++ pair_order (pair_differs s.analysis (combustion_in bs) (metering_in bs))
+
+abbrev pub former_analysis_of : Meter → ℕ → List ℕ → Outcome Meter
+former_analysis_of m k bs = decided (first_of (former_analysis_order k bs (stream_at m k))) (with_stream m k (analysed (stream_at m k) bs))
+
+abbrev pub AnalysisChange : Type 0
+AnalysisChange = (m : Meter) (k : ℕ) (bs : List ℕ) → analysis_of m k bs ≡ limit_first (record_limit bs) (former_analysis_of m k bs)

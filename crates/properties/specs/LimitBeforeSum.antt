@@ -1,0 +1,13 @@
+-- What it changes in the properties, and in the values per kilogram, that 10, 11 and 12 are tried before 9: what it changes in reading the
+-- record (crates/records/specs/LimitBeforeSum.antt).
+use Rattle.std.specs.Prelude.{◌≡◌, List, ℕ}
+use Rattle.records.specs.Order.{mapped}
+use Rattle.records.specs.LimitBeforeSum.{record_limit, limit_first, former_reading_of}
+use Rattle.properties.specs.Chain.{six_of, properties_of}
+use Rattle.properties.specs.PerKilogram.{mass_basis_of, per_kilogram_of}
+
+abbrev pub PropertiesChange : Type 0
+PropertiesChange = (bs : List ℕ) → properties_of bs ≡ limit_first (record_limit bs) (mapped six_of (former_reading_of bs))
+
+abbrev pub PerKilogramChange : Type 0
+PerKilogramChange = (bs : List ℕ) → per_kilogram_of bs ≡ limit_first (record_limit bs) (mapped mass_basis_of (former_reading_of bs))
