@@ -1,5 +1,5 @@
 -- Trying 10 to 12 before 9 changes a number by `renumbered`, whatever stands before and after them in an order.
-use mathlib.Core.Path.{◌≡◌, refl, sym, ◌∙◌}
+use mathlib.Core.Path.{◌≡◌, refl, sym, ap}
 use mathlib.Core.Bool.{Bool, true, false, not, ◌&&◌, ◌||◌, cond}
 use mathlib.Core.List.{List, [], ◌∷◌, ◌++◌}
 use Prim.Native.Nat.{ℕ, zero, suc}
@@ -24,6 +24,10 @@ abbrev pub tries_9 : Order → Bool
 tries_9 [] = false
 tries_9 ((n, holds) ∷ rest) = eqb n 9 || tries_9 rest
 
+-- every number but 9 stays
+other_stays : (limit n : ℕ) → eqb n 9 ≡ false → n ≡ renumbered limit n
+other_stays limit n h = ap (λ (b : Bool). cond b limit n) (sym (and_right (not (eqb limit 0)) (eqb n 9) h))
+
 -- an order with these four between others
 pub number_change : (a : Order) (nine ten eleven twelve : Bool) (b : Order) → tries_9 a ≡ false
     → first_of (a ++ (limits_order nine ten eleven twelve ++ b)) ≡ renumbered (first_limit ten eleven twelve) (first_of (a ++ (former_limits_order nine ten eleven twelve ++ b)))
@@ -34,7 +38,7 @@ number_change [] false false true twelve b h = refl
 number_change [] true false false true b h = refl
 number_change [] false false false true b h = refl
 number_change [] nine false false false b h = refl
-number_change ((n, true) ∷ rest) nine ten eleven twelve b h = rw (and_right (not (eqb (first_limit ten eleven twelve) 0)) (eqb n 9) (or_parts _ _ h).0) refl
+number_change ((n, true) ∷ rest) nine ten eleven twelve b h = other_stays (first_limit ten eleven twelve) n (or_parts _ _ h).0
 number_change ((n, false) ∷ rest) nine ten eleven twelve b h = number_change rest nine ten eleven twelve b (or_parts _ _ h).1
 
 -- the answer of a call by an order that changes a number so
