@@ -7,7 +7,10 @@ use Rattle.records.proofs.LimitBeforeSum.{content_change}
 use Rattle.meter.specs.State.{stream_at, with_stream}
 use Rattle.meter.specs.Conditions.{stream_above, pair_differs, pair_order}
 use Rattle.meter.specs.Calls.{analysed}
-use Rattle.meter.specs.LimitBeforeSum.{AnalysisChange}
+use Rattle.meter.specs.LimitBeforeSum.{FormerAnalysisNumbers, AnalysisChange}
+
+pub former_analysis_numbers : FormerAnalysisNumbers
+former_analysis_numbers k bs s = refl
 
 pub analysis_change : AnalysisChange
 analysis_change m k bs =

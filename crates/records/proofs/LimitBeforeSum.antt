@@ -46,7 +46,7 @@ either : {A : Type 0} (changes : Bool) (limit number : ℕ) (a : A) → decided 
 either true limit number a = refl
 either false limit number a = refl
 
-answer_change : {A : Type 0} (limit number : ℕ) (a : A) → decided (renumbered limit number) a ≡ limit_first limit (decided number a)
+pub answer_change : {A : Type 0} (limit number : ℕ) (a : A) → decided (renumbered limit number) a ≡ limit_first limit (decided number a)
 answer_change limit zero a = rw (and_right (not (eqb limit 0)) false refl) refl
 answer_change zero (suc number) a = refl
 answer_change (suc limit) (suc number) a = either (not (eqb (suc limit) 0) && eqb (suc number) 9) limit number a

@@ -8,4 +8,5 @@ pub mod Demand
 pub mod Exists
 pub mod LentRuns
 pub mod LentExists
+mod LimitBeforeSum
 mod Cited

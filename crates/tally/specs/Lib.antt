@@ -2,4 +2,5 @@ pub mod Tally
 pub mod Run
 pub mod Demand
 pub mod LentRun
+pub mod LimitBeforeSum
 pub mod Cases
