@@ -72,7 +72,7 @@
 extern "C" {
 #endif
 
-/* The numbers that come back: those up to 12 for a record, 13 to 18 from the meter's calls alone, 19 and 20 from the writer alone. Where
+/* The numbers that come back: the first twelve for a record, 13 to 18 from the meter's calls alone, 19 and 20 from the writer alone. Where
  * several conditions hold, it is the first in the call's order, in which 9 stands after 10, 11 and 12. */
 enum loonstool_number {
     LOONSTOOL_ACCEPTED = 0,

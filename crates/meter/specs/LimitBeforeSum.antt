@@ -1,5 +1,5 @@
--- What it changes in the analysis call that 10, 11 and 12 are tried before 9 (crates/records/specs/LimitBeforeSum.antt): on every meter,
--- and for every stream and record, some numbers of refusals, and nothing of what is accepted or of the meter after the call.
+-- The analysis call, on every meter and for every stream and record, compared with the one by the order that tried 9 before 10, 11 and 12
+-- (crates/records/specs/LimitBeforeSum.antt): refusals by 9 differ, and nothing of what is accepted or of the meter after the call.
 use Rattle.std.specs.Prelude.{◌≡◌, List, [], ◌∷◌, ◌++◌, ℕ}
 use Rattle.records.specs.Order.{Order, first_of, numbers_of, Outcome, decided}
 use Rattle.records.specs.Format.{combustion_in, metering_in}
@@ -17,7 +17,7 @@ former_analysis_order k bs s = (13, stream_above k) ∷ former_record_order bs +
 abbrev pub former_analysis_of : Meter → ℕ → List ℕ → Outcome Meter
 former_analysis_of m k bs = decided (first_of (former_analysis_order k bs (stream_at m k))) (with_stream m k (analysed (stream_at m k) bs))
 
--- it tried the numbers as a record's former order did, between 13 and 14
+-- it tried the numbers of a record upward between 13 and 14
 abbrev pub FormerAnalysisNumbers : Type 0
 FormerAnalysisNumbers =
     (k : ℕ) (bs : List ℕ) (s : Stream) → numbers_of (former_analysis_order k bs s) ≡ 13 ∷ 1 ∷ 2 ∷ 3 ∷ 4 ∷ 5 ∷ 6 ∷ 7 ∷ 8 ∷ 9 ∷ 10 ∷ 11 ∷ 12 ∷ 14 ∷ []

@@ -1,5 +1,5 @@
--- What it changes in the properties, and in the values per kilogram, that 10, 11 and 12 are tried before 9: what it changes in reading the
--- record (crates/records/specs/LimitBeforeSum.antt).
+-- The properties and the values per kilogram of every list of bytes, compared with those by the order that tried 9 before 10, 11 and 12:
+-- they differ as reading the record does (crates/records/specs/LimitBeforeSum.antt).
 use Rattle.std.specs.Prelude.{◌≡◌, List, ℕ}
 use Rattle.records.specs.Order.{mapped}
 use Rattle.records.specs.LimitBeforeSum.{record_limit, limit_first, former_reading_of}

@@ -1,4 +1,4 @@
--- Trying 10 to 12 before 9 changes a number by `renumbered`, whatever stands before and after them in an order.
+-- With 10, 11 and 12 before 9 the number of an order is the former one by `renumbered`, whatever stands before and after the four.
 use mathlib.Core.Path.{◌≡◌, refl, sym, ap}
 use mathlib.Core.Bool.{Bool, true, false, not, ◌&&◌, ◌||◌, cond}
 use mathlib.Core.List.{List, [], ◌∷◌, ◌++◌}

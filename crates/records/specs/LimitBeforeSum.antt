@@ -1,6 +1,6 @@
--- What it changes that the limits 10, 11 and 12 are tried before the sum, 9: only answers of 9 where one of 10 to 12 holds too. They
--- become the first of 10 to 12 that holds; every other answer is the same. This is said of every record and of every call of the writer.
--- The former order, which tried 9 first, stands here alone, for this comparison.
+-- The limits, 10, 11 and 12, are tried before the sum, 9. Compared with the order that tried 9 first, which stands here for this statement
+-- alone, only answers of 9 differ where one of 10 to 12 holds too: they are the first of 10 to 12 that holds. Every other answer is the
+-- same, for every record and every call of the writer.
 use Rattle.std.specs.Prelude.{◌≡◌, Bool, true, not, ◌&&◌, cond, List, [], ◌∷◌, ◌++◌, ℕ, eqb, length}
 use Rattle.components.specs.Composition.{total, fraction_for}
 use Rattle.records.specs.Order.{Order, first_of, numbers_of, Outcome, refused, accepted, decided}
@@ -9,7 +9,7 @@ use Rattle.records.specs.Conditions.{methane, water, fraction_zero, sum_outside,
 use Rattle.records.specs.Calls.{reading_of, writing_of}
 use Rattle.records.specs.Cases.{same_contents, same_outcome, nitrogen_high}
 
--- the former order of 9 to 12, from whether each of them holds
+-- the former order, from whether each of the four holds
 abbrev pub former_limits_order : Bool → Bool → Bool → Bool → Order
 former_limits_order nine ten eleven twelve = (9, nine) ∷ (10, ten) ∷ (11, eleven) ∷ (12, twelve) ∷ []
 
@@ -27,7 +27,7 @@ former_record_order bs = head_order bs ++ former_content_order (lines_in bs) (fr
 abbrev pub former_writer_order : Contents → ℕ → Order
 former_writer_order k room = start_order k ++ (former_content_order k.lines k.fractions ++ room_order room (length k.lines))
 
--- they tried the numbers as they ascend
+-- these tried the numbers upward, the writer after 19, 4 and 5
 abbrev pub FormerRecordNumbers : Type 0
 FormerRecordNumbers = (bs : List ℕ) → numbers_of (former_record_order bs) ≡ 1 ∷ 2 ∷ 3 ∷ 4 ∷ 5 ∷ 6 ∷ 7 ∷ 8 ∷ 9 ∷ 10 ∷ 11 ∷ 12 ∷ []
 

@@ -4,7 +4,7 @@ ghost use Rattle.records.specs.Refusals.{number};
 
 use std::fmt;
 
-// Those up to 12 are those of a record, 13 to 18 those of a meter's calls, 19 and 20 the writer's own.
+// The first twelve are those of a record, 13 to 18 those of a meter's calls, 19 and 20 the writer's own.
 #[derive(Clone, Copy, Debug, PartialEq, Eq)]
 pub enum Refusal {
     TooShort = 1,

@@ -16,8 +16,8 @@ const MOST_SUM: u64 = 1000100;
 
 const LEAST_METHANE: u32 = 500000;
 
-// What 10 to 12 and 9 need of the entries so far: the sum of the fractions, the fractions of methane and of water, 0 where absent as document 01
-// has it, and whether another line is above its limit.
+// What 10 to 12 and 9 need of the entries so far: the sum of the fractions, the fractions of methane and of water, 0 where absent as
+// document 01 has it, and whether another line is above its limit.
 #[derive(Clone, Copy, Default)]
 struct Scan {
     sum: u64,

@@ -1,5 +1,5 @@
--- What it changes in a list of calls that 10, 11 and 12 are tried before 9 (crates/records/specs/LimitBeforeSum.antt): numbers of refused
--- analyses alone. Every other answer is the same, and so is the tally after the list.
+-- Every list of calls, compared with the same by the order that tried 9 before 10, 11 and 12 (crates/records/specs/LimitBeforeSum.antt):
+-- refusals of analyses by 9 differ. Every other answer is the same, and so is the tally after the list.
 use Rattle.std.specs.Prelude.{◌≡◌, List, [], ◌∷◌, ◌++◌, ℕ}
 use contract.Lifetimes.{Lfts}
 use Rattle.std.specs.Borrow.{MutBor}
@@ -11,7 +11,7 @@ use Rattle.meter.specs.declared.Meter.{Meter}
 use Rattle.tally.specs.Run.{FreshReturns, Run}
 use Rattle.tally.specs.LentRun.{Words, FreshGave, LentRun}
 
--- the former order of a call, which only of an analysis was another
+-- the former order of a call: another for an analysis, and the same for every other call
 abbrev pub former_order_of : ℕ → Ask → StreamTally → Order
 former_order_of k (analysis bs) s = (13, above_last k) ∷ former_record_order bs ++ ((14, other_pair s.pair (combustion_in bs) (metering_in bs)) ∷ [])
 former_order_of k (metering v) s = order_of k (metering v) s
