@@ -72,6 +72,10 @@ static struct loonstool_meter *meter;
 static struct loonstool_totals *totals;
 static uint64_t *mean;
 
+/* The two entries of a gas, lent to the writer. */
+static uint8_t *two_lines;
+static uint32_t *two_fractions;
+
 /* The meter as the last accepted call left it. */
 static struct loonstool_meter saved;
 
@@ -299,11 +303,13 @@ static void try_gas(const struct gas *gas, const char *what)
 /* The writer refuses what a gas's record would have after its head, and leaves the buffer. */
 static void try_writing(const struct gas *gas, const char *what)
 {
-    const uint8_t two[2] = {1, gas->line};
-    const uint32_t both[2] = {gas->methane, gas->other};
     uint8_t *buffer = bytes_end - ROOM;
+    two_lines[0] = 1;
+    two_lines[1] = gas->line;
+    two_fractions[0] = gas->methane;
+    two_fractions[1] = gas->other;
     memset(buffer, 0x5a, ROOM);
-    expect(loonstool_write(15, 15, two, 2, both, 2, buffer, ROOM) == gas->number, what, gas->number);
+    expect(loonstool_write(15, 15, two_lines, 2, two_fractions, 2, buffer, ROOM) == gas->number, what, gas->number);
     expect(all_are(buffer, ROOM, 0x5a), what, gas->number);
 }
 
@@ -729,6 +735,8 @@ static void lend(void)
     mean = filled[7].at;
     per_kilogram = filled[8].at;
     meter = lent(sizeof *meter);
+    two_lines = lent(2 * sizeof *two_lines);
+    two_fractions = lent(2 * sizeof *two_fractions);
 }
 
 int main(void)

@@ -73,7 +73,7 @@ extern "C" {
 #endif
 
 /* The numbers that come back: the first twelve for a record, 13 to 18 from the meter's calls alone, 19 and 20 from the writer alone. Where
- * several conditions hold, it is the first in the call's order, in which 9 stands after 10, 11 and 12. */
+ * several conditions hold, the number is that of the first in the call's order, in which 9 stands after 10, 11 and 12. */
 enum loonstool_number {
     LOONSTOOL_ACCEPTED = 0,
     LOONSTOOL_RECORD_SHORT = 1,       /* record shorter than 8 bytes */

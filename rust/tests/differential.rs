@@ -21,9 +21,9 @@ const RECORDS: Comparison = Comparison {
     default: 1_000_000,
 };
 
-/// Refusals of reader, properties and values per kilogram, and of the writer.
-const OF_RECORD: [u8; 12] = [1, 2, 3, 4, 5, 6, 7, 8, 9, 10, 11, 12];
-const OF_WRITER: [u8; 10] = [4, 5, 7, 8, 9, 10, 11, 12, 19, 20];
+/// The orders of reader, properties and values per kilogram, and of the writer.
+const OF_RECORD: [u8; 12] = [1, 2, 3, 4, 5, 6, 7, 8, 10, 11, 12, 9];
+const OF_WRITER: [u8; 10] = [19, 4, 5, 7, 8, 10, 11, 12, 9, 20];
 
 /// The places of the calls in the counts.
 const PROPERTIES_OF: usize = 0;
@@ -47,7 +47,7 @@ fn compare_all(run: &Run) -> Result<Vec<String>, String> {
     }
     counts.print();
     run.print_due(
-        "of each refusal of each call, of 9 to 12 beside a sum outside its range, each pair, each line, and of records at two metering temperatures",
+        "of each refusal of each call, of 10 to 12 where the sum is outside its range too, each pair, each line, and of records at two metering temperatures",
     );
     Ok(counts.failures(run))
 }
@@ -108,8 +108,8 @@ impl Counts {
         );
         let (line, count) = self.least_line();
         println!("least of the 55 lines in accepted records: line {line}, {count} times");
-        for (of, [nine, ten, eleven, twelve]) in self.limits.outside() {
-            println!("{of} with a sum outside its range: {nine} refused by 9, {ten} by 10, {eleven} by 11, {twelve} by 12");
+        for (of, [ten, eleven, twelve]) in self.limits.outside() {
+            println!("{of} refused by 10, 11 and 12 where the sum is outside its range too: {ten}, {eleven}, {twelve}");
         }
         let (name, count) = self.limits.least();
         println!("least of the limits, met and passed by one: {name}, {count} times");
@@ -135,10 +135,10 @@ impl Counts {
             failures.push(format!("line {line} only {count} times"));
         }
         for (of, counts) in self.limits.outside() {
-            for (number, count) in (9..=12).zip(counts) {
+            for (number, count) in (10..).zip(counts) {
                 if count < due {
                     failures.push(format!(
-                        "{of} with a sum outside its range, refused by {number}, only {count} times"
+                        "{of} refused by {number} beside the sum only {count} times"
                     ));
                 }
             }

@@ -43,7 +43,7 @@ const SAMPLED: u64 = 30;
 const RESTORED: u64 = 64;
 
 /// The numbers of each order, that of both means the same, and the places of the calls in the counts.
-const OF_ANALYSIS: [u8; 14] = [13, 1, 2, 3, 4, 5, 6, 7, 8, 9, 10, 11, 12, 14];
+const OF_ANALYSIS: [u8; 14] = [13, 1, 2, 3, 4, 5, 6, 7, 8, 10, 11, 12, 9, 14];
 const OF_METERING: [u8; 4] = [13, 15, 16, 17];
 const OF_TOTALS: [u8; 1] = [13];
 const OF_MEAN: [u8; 2] = [13, 18];

@@ -1,13 +1,14 @@
 -- The analysis call, on every meter and for every stream and record, compared with the one by the order that tried 9 before 10, 11 and 12
--- (crates/records/specs/LimitBeforeSum.antt): refusals by 9 differ, and nothing of what is accepted or of the meter after the call.
+-- (crates/records/specs/LimitBeforeSum.antt): only refusals by 9 differ where one of 10 to 12 holds too, and nothing of what is accepted
+-- or of the meter after the call.
 use Rattle.std.specs.Prelude.{◌≡◌, List, [], ◌∷◌, ◌++◌, ℕ}
-use Rattle.records.specs.Order.{Order, first_of, numbers_of, Outcome, decided}
+use Rattle.records.specs.Order.{Order, first_of, numbers_of, condition_of, Outcome, decided}
 use Rattle.records.specs.Format.{combustion_in, metering_in}
-use Rattle.records.specs.LimitBeforeSum.{former_record_order, record_limit, limit_first}
+use Rattle.records.specs.LimitBeforeSum.{former_record_order, former_record_numbers, record_limit_number, renumbered}
 use Rattle.meter.specs.declared.Meter.{Meter}
 use Rattle.meter.specs.declared.Stream.{Stream}
 use Rattle.meter.specs.State.{stream_at, with_stream}
-use Rattle.meter.specs.Conditions.{stream_above, pair_differs, pair_order}
+use Rattle.meter.specs.Conditions.{stream_above, pair_differs, pair_order, analysis_order}
 use Rattle.meter.specs.Calls.{analysed, analysis_of}
 
 -- the former order, and what the call gave by it
@@ -17,10 +18,13 @@ former_analysis_order k bs s = (13, stream_above k) ∷ former_record_order bs +
 abbrev pub former_analysis_of : Meter → ℕ → List ℕ → Outcome Meter
 former_analysis_of m k bs = decided (first_of (former_analysis_order k bs (stream_at m k))) (with_stream m k (analysed (stream_at m k) bs))
 
--- it tried the numbers of a record upward between 13 and 14
+-- it tried the numbers of a record upward between 13 and 14, and each with the condition that it has now
 abbrev pub FormerAnalysisNumbers : Type 0
-FormerAnalysisNumbers =
-    (k : ℕ) (bs : List ℕ) (s : Stream) → numbers_of (former_analysis_order k bs s) ≡ 13 ∷ 1 ∷ 2 ∷ 3 ∷ 4 ∷ 5 ∷ 6 ∷ 7 ∷ 8 ∷ 9 ∷ 10 ∷ 11 ∷ 12 ∷ 14 ∷ []
+FormerAnalysisNumbers = (k : ℕ) (bs : List ℕ) (s : Stream) → numbers_of (former_analysis_order k bs s) ≡ 13 ∷ former_record_numbers ++ (14 ∷ [])
+
+abbrev pub FormerAnalysisConditions : Type 0
+FormerAnalysisConditions =
+    (k : ℕ) (bs : List ℕ) (s : Stream) (n : ℕ) → condition_of n (former_analysis_order k bs s) ≡ condition_of n (analysis_order k bs s)
 
 abbrev pub AnalysisChange : Type 0
-AnalysisChange = (m : Meter) (k : ℕ) (bs : List ℕ) → analysis_of m k bs ≡ limit_first (record_limit bs) (former_analysis_of m k bs)
+AnalysisChange = (m : Meter) (k : ℕ) (bs : List ℕ) → analysis_of m k bs ≡ renumbered (record_limit_number bs) (former_analysis_of m k bs)

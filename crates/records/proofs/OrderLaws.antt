@@ -1,6 +1,6 @@
 -- Laws of orders of refusals: which part of an order decides, what is known where no condition holds, and what a call then gives.
 use mathlib.Core.Path.{◌≡◌, refl, sym, ap, ◌∙◌}
-use mathlib.Core.Bool.{Bool, true, false, cond}
+use mathlib.Core.Bool.{Bool, true, false}
 use mathlib.Core.List.{[], ◌∷◌, ◌++◌}
 use Prim.Native.Nat.{ℕ, zero, suc}
 use native.Mathlib.Omega.{arith}
@@ -9,7 +9,7 @@ use Rattle.std.proofs.lemmas.Bool.{cond_both}
 use Rattle.std.specs.Prelude.{Result, Ok, Err}
 use Rattle.std.specs.Result.{IsErrAnd}
 use Rattle.records.specs.declared.refusal.Refusal.{Refusal}
-use Rattle.records.specs.Order.{Order, first_of, refused, accepted, decided, otherwise, mapped}
+use Rattle.records.specs.Order.{Order, first_of, condition_of, refused, accepted, decided, otherwise, mapped}
 use Rattle.records.specs.Refusals.{Verdict, number, number_in}
 use Rattle.records.specs.Answers.{Gives}
 
@@ -41,11 +41,6 @@ clear_first ((suc n, false) ∷ rest) b t h = clear_first rest b t h
 
 pub clear_second : (a b : Order) → T (numbered a) → first_of (a ++ b) ≡ 0 → first_of b ≡ 0
 clear_second a b t h = passes a b t refl (clear_first a b t h) refl ∙ h
-
--- the condition of a number
-abbrev pub condition_of : ℕ → Order → Bool
-condition_of n [] = false
-condition_of n ((m, holds) ∷ rest) = cond (eqb m n) holds (condition_of n rest)
 
 -- where no condition of an order holds, that of each number does not
 pub unmet : (o : Order) → T (numbered o) → first_of o ≡ 0 → (n : ℕ) → condition_of n o ≡ false

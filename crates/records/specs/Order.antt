@@ -1,5 +1,5 @@
 -- Orders of refusals ("When a call says no" of document 01), and what comes back from a call that tries one.
-use Rattle.std.specs.Prelude.{Bool, cond, List, [], ◌∷◌, ℕ, zero, suc}
+use Rattle.std.specs.Prelude.{Bool, false, cond, List, [], ◌∷◌, ℕ, zero, suc, eqb}
 
 -- conditions with their numbers, in the order in which they are tried
 abbrev pub Order : Type 0
@@ -14,6 +14,11 @@ first_of ((n, holds) ∷ rest) = cond holds n (first_of rest)
 abbrev pub numbers_of : Order → List ℕ
 numbers_of [] = []
 numbers_of ((n, holds) ∷ rest) = n ∷ numbers_of rest
+
+-- whether the condition with a number holds
+abbrev pub condition_of : ℕ → Order → Bool
+condition_of n [] = false
+condition_of n ((m, holds) ∷ rest) = cond (eqb m n) holds (condition_of n rest)
 
 -- what comes back from a call: the number of its refusal, or its answer
 pub data Outcome (A : Type 0) : Type 0 where

@@ -1,4 +1,4 @@
--- K1 to K10 hold, by computation.
+-- The cases hold, by computation.
 use mathlib.Core.Path.{refl}
 use Rattle.rounding.specs.Near.{near, near_z, floor}
 use Rattle.rounding.specs.Root.{root, root_from}

@@ -1,5 +1,6 @@
--- The cases K1 to K10 of document 01, and a computed one of the inferior energy and the mass, as one list, and one test over the
--- definitions that computes to true over the whole list. Values per kilogram stand in crates/properties/specs/Cases.antt.
+-- The cases K1 to K10 of document 01, a computed one of the inferior energy and the mass, and the records of `limit_cases` as analyses, as
+-- one list, and one test over the definitions that computes to true over the whole list. Values per kilogram stand in
+-- crates/properties/specs/Cases.antt.
 use Rattle.std.specs.Prelude.{◌≡◌, Bool, true, ◌&&◌, List, [], ◌∷◌, ℕ, ◌*◌, ◌-◌, eqb, leb, ℤ, pos, nat_abs, ◌-ℤ◌}
 use Rattle.components.specs.Table.{entry_of}
 use Rattle.components.specs.Table as table
@@ -41,7 +42,7 @@ abbrev pub each_number : List on-record.Case → List Case → List Case
 each_number [] more = more
 each_number (c ∷ cs) more = number c ∷ each_number cs more
 
--- the analysis of the record of each on the stream 0 of a fresh meter, which the number refuses
+-- the record of each as an analysis on the stream 0 of a fresh meter, refused by its number
 abbrev pub each_analysis : List on-record.Case → List Case → List Case
 each_analysis [] more = more
 each_analysis (c ∷ cs) more = calls ((on 0 (analysis c.bytes), decided c.number done) ∷ []) ∷ each_analysis cs more

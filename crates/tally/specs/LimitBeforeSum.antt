@@ -1,11 +1,11 @@
 -- Every list of calls, compared with the same by the order that tried 9 before 10, 11 and 12 (crates/records/specs/LimitBeforeSum.antt):
--- refusals of analyses by 9 differ. Every other answer is the same, and so is the tally after the list.
+-- only refusals of analyses by 9 differ where one of 10 to 12 holds too. Every other answer is the same, and so is the tally after it.
 use Rattle.std.specs.Prelude.{◌≡◌, List, [], ◌∷◌, ◌++◌, ℕ}
 use contract.Lifetimes.{Lfts}
 use Rattle.std.specs.Borrow.{MutBor}
-use Rattle.records.specs.Order.{Order, first_of, numbers_of, decided, otherwise}
+use Rattle.records.specs.Order.{Order, first_of, numbers_of, condition_of, decided, otherwise}
 use Rattle.records.specs.Format.{combustion_in, metering_in}
-use Rattle.records.specs.LimitBeforeSum.{former_record_order, record_limit, limit_first}
+use Rattle.records.specs.LimitBeforeSum.{former_record_order, former_record_numbers, record_limit_number, renumbered}
 use Rattle.tally.specs.Tally.{Ask, analysis, metering, totals, mean, Call, Answer, StreamTally, Tally, fresh_tally, tally_at, with_tally, above_last, other_pair, order_of, left_by, given_by, answers_to, tallied}
 use Rattle.meter.specs.declared.Meter.{Meter}
 use Rattle.tally.specs.Run.{FreshReturns, Run}
@@ -18,9 +18,13 @@ former_order_of k (metering v) s = order_of k (metering v) s
 former_order_of k totals s = order_of k totals s
 former_order_of k (mean e) s = order_of k (mean e) s
 
+-- it tried the numbers of a record upward between 13 and 14, and each with the condition that it has now
 abbrev pub FormerAnalysisNumbers : Type 0
 FormerAnalysisNumbers =
-    (k : ℕ) (bs : List ℕ) (s : StreamTally) → numbers_of (former_order_of k (analysis bs) s) ≡ 13 ∷ 1 ∷ 2 ∷ 3 ∷ 4 ∷ 5 ∷ 6 ∷ 7 ∷ 8 ∷ 9 ∷ 10 ∷ 11 ∷ 12 ∷ 14 ∷ []
+    (k : ℕ) (bs : List ℕ) (s : StreamTally) → numbers_of (former_order_of k (analysis bs) s) ≡ 13 ∷ former_record_numbers ++ (14 ∷ [])
+
+abbrev pub FormerConditions : Type 0
+FormerConditions = (k : ℕ) (ask : Ask) (s : StreamTally) (n : ℕ) → condition_of n (former_order_of k ask s) ≡ condition_of n (order_of k ask s)
 
 -- one call, and a list of calls, by it
 abbrev pub former_number_for : Tally → Call → ℕ
@@ -40,33 +44,33 @@ abbrev pub former_tallied : Tally → List Call → Tally
 former_tallied t [] = t
 former_tallied t (c ∷ cs) = former_tallied (former_tally_after t c) cs
 
--- the first of 10, 11 and 12 that holds of the record of an analysis, 0 where none does, and of any other call
-abbrev pub ask_limit : Ask → ℕ
-ask_limit (analysis bs) = record_limit bs
-ask_limit (metering v) = 0
-ask_limit totals = 0
-ask_limit (mean e) = 0
+-- the first of 10, 11 and 12 that holds of the record of an analysis, 0 where none does, and for any other call
+abbrev pub ask_limit_number : Ask → ℕ
+ask_limit_number (analysis bs) = record_limit_number bs
+ask_limit_number (metering v) = 0
+ask_limit_number totals = 0
+ask_limit_number (mean e) = 0
 
--- former answers to a list of calls, each with the limit of its call
-abbrev pub limits_first : List Call → List Answer → List Answer
-limits_first [] rs = []
-limits_first (c ∷ cs) [] = []
-limits_first (c ∷ cs) (r ∷ rs) = limit_first (ask_limit c.ask) r ∷ limits_first cs rs
+-- former answers to a list of calls as they are now
+abbrev pub each_renumbered : List Call → List Answer → List Answer
+each_renumbered [] rs = []
+each_renumbered (c ∷ cs) [] = []
+each_renumbered (c ∷ cs) (r ∷ rs) = renumbered (ask_limit_number c.ask) r ∷ each_renumbered cs rs
 
 -- from any tally, a list of calls gets its former answers so changed, and leaves the tally that it left
 pub record ListChange (t : Tally) (cs : List Call) : Type 0 where
-  pub answers : answers_to t cs ≡ limits_first cs (former_answers_to t cs)
+  pub answers : answers_to t cs ≡ each_renumbered cs (former_answers_to t cs)
   pub after : tallied t cs ≡ former_tallied t cs
 
 abbrev pub EveryListChange : Type 0
 EveryListChange = (t : Tally) (cs : List Call) → ListChange t cs
 
--- so do the functions of the meter answer a list of calls from a meter that `Meter::new` returned, and the exported ones a list of calls
--- on words that the exported `fresh` has filled
+-- so do the functions of the meter answer a list of calls from a meter that `Meter::new` returned, and the exported ones one on words that
+-- the exported `fresh` has filled
 abbrev pub RunChange : Type 0
-RunChange = (m₀ m : Meter) (cs : List Call) (rs : List Answer) → FreshReturns m₀ → Run m₀ cs rs m → rs ≡ limits_first cs (former_answers_to fresh_tally cs)
+RunChange = (m₀ m : Meter) (cs : List Call) (rs : List Answer) → FreshReturns m₀ → Run m₀ cs rs m → rs ≡ each_renumbered cs (former_answers_to fresh_tally cs)
 
 abbrev pub LentRunChange : Type 0
 LentRunChange =
     (κs : Lfts 1) (old new : MutBor Words) (cs : List Call) (rs : List Answer) (w : Words) → FreshGave κs old new → LentRun new.now cs rs w →
-    rs ≡ limits_first cs (former_answers_to fresh_tally cs)
+    rs ≡ each_renumbered cs (former_answers_to fresh_tally cs)

@@ -94,10 +94,10 @@ pub fn on_limits() -> Vec<Gas> {
     let gas = |title, number, entries: &[_]| Gas::new(title, (15, 15), entries.to_vec(), number);
     let mut nitrogen_high = K1;
     nitrogen_high[6].1 = 400_000;
-    let heavy = (3..=11).map(|line| (line, if line == 3 { 1 } else { 50_000 }));
+    let others = (3..=11).map(|line| (line, if line == 3 { 1 } else { 50_000 }));
     let filled: Vec<_> = [(1, u32::MAX), (2, 150_000)]
         .into_iter()
-        .chain(heavy)
+        .chain(others)
         .chain([(52, 300_000), (54, 150_000)])
         .collect();
     let full: Vec<_> = (1..=55).map(|line| (line, u32::MAX)).collect();
@@ -123,7 +123,7 @@ pub fn on_limits() -> Vec<Gas> {
             11,
             &[(1, 600_000), (42, 201), (52, 400_000)],
         ),
-        gas("the most of every line", 11, &full),
+        gas("2^32 - 1 of every line", 11, &full),
         gas("9 and 12", 12, &[(1, 999_900), (42, 201)]),
         gas("9 with five lines on their limits", 9, &at_limits),
         gas("methane 2^32 - 1", 9, &[(1, u32::MAX)]),

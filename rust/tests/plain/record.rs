@@ -115,8 +115,8 @@ fn check_count(count: usize) -> Result<(), u8> {
 }
 
 /// Checks line numbers and fractions: conditions 7 and 8, then 10 to 12, then
-/// 9. A line number that breaks 7 refuses at once; the others are of all
-/// entries.
+/// 9. A line number that breaks 7 refuses at once; the later conditions hold
+/// over all entries.
 fn check_entries(entries: impl Iterator<Item = (u8, u32)>) -> Result<(), u8> {
     let mut before = 0;
     let mut zero = false;

@@ -9,8 +9,8 @@ pub struct Limits {
     sums: [u64; 4],
     /// For each line its limit and one past it; methane's is its least.
     lines: [[u64; 2]; 56],
-    /// Records, and calls of the writer, with a sum outside its range that 9, 10, 11 and 12 refuse.
-    outside: [[u64; 4]; 2],
+    /// Records, and calls of the writer, that 10, 11 and 12 refuse where the sum is outside its range too.
+    outside: [[u64; 3]; 2],
     /// What `OF_RECORD` and `OF_WRITER` name.
     of_record: [u64; 4],
     of_writer: [u64; 4],
@@ -43,7 +43,7 @@ impl Limits {
         Self {
             sums: [0; 4],
             lines: [[0; 2]; 56],
-            outside: [[0; 4]; 2],
+            outside: [[0; 3]; 2],
             of_record: [0; 4],
             of_writer: [0; 4],
         }
@@ -62,10 +62,6 @@ impl Limits {
         if number == 0 || number > 8 {
             self.book_entries(&record[8..], number);
         }
-        if let 9..=12 = number {
-            let fractions = record[8..].chunks_exact(5).map(fraction_in);
-            self.outside[0][number - 9] += u64::from(is_outside(fractions));
-        }
     }
 
     /// Books a call of the writer and the number of its answer.
@@ -79,17 +75,14 @@ impl Limits {
             call.buffer.len() + 1 == length && number == 20,
         ];
         count(&mut self.of_writer, met);
-        if let 9..=12 = number {
-            let fractions = call.draft.fractions.iter().copied();
-            self.outside[1][number - 9] += u64::from(is_outside(fractions));
-        }
+        self.book_sum(1, call.draft.sum(), number);
     }
 
     /// Books the entries of a record that none of 1 to 8 refuses.
     fn book_entries(&mut self, entries: &[u8], number: usize) {
         let mut sum = 0;
         for entry in entries.chunks_exact(5) {
-            let fraction = fraction_in(entry);
+            let fraction = u32::from_le_bytes([entry[1], entry[2], entry[3], entry[4]]);
             let (on, past, own) = match entry[0] {
                 METHANE => (LEAST_METHANE, LEAST_METHANE - 1, 10),
                 WATER => (limit(WATER), limit(WATER) + 1, 12),
@@ -103,10 +96,19 @@ impl Limits {
         for (count, (limit, own)) in self.sums.iter_mut().zip(SUMS) {
             *count += u64::from(sum == limit && number == own);
         }
+        self.book_sum(0, sum, number);
     }
 
-    /// How often 9, 10, 11 and 12 refuse a sum outside its range, in records and in calls of the writer.
-    pub fn outside(&self) -> [(&'static str, [u64; 4]); 2] {
+    /// Books the sum of a record or of a call of the writer.
+    fn book_sum(&mut self, of: usize, sum: u64, number: usize) {
+        let range = u64::from(SUM.0)..=u64::from(SUM.1);
+        if (10..=12).contains(&number) && !range.contains(&sum) {
+            self.outside[of][number - 10] += 1;
+        }
+    }
+
+    /// How often 10, 11 and 12 refuse where the sum is outside its range too.
+    pub fn outside(&self) -> [(&'static str, [u64; 3]); 2] {
         [
             ("records", self.outside[0]),
             ("calls of the writer", self.outside[1]),
@@ -136,15 +138,6 @@ impl Limits {
             .min_by_key(|(_, count)| *count)
             .unwrap_or_default()
     }
-}
-
-fn fraction_in(entry: &[u8]) -> u32 {
-    u32::from_le_bytes([entry[1], entry[2], entry[3], entry[4]])
-}
-
-fn is_outside(fractions: impl Iterator<Item = u32>) -> bool {
-    let sum: u64 = fractions.map(u64::from).sum();
-    !(u64::from(SUM.0)..=u64::from(SUM.1)).contains(&sum)
 }
 
 fn count(counts: &mut [u64; 4], met: [bool; 4]) {
