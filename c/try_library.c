@@ -300,7 +300,7 @@ static void try_gas(const struct gas *gas, const char *what)
     expect_refused(bytes, gas->length, gas->number, what);
 }
 
-/* The writer refuses what a gas's record would have after its head, and leaves the buffer. */
+/* The writer refuses the two entries of a gas by its number, and leaves the buffer as it was. */
 static void try_writing(const struct gas *gas, const char *what)
 {
     uint8_t *buffer = bytes_end - ROOM;

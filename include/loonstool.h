@@ -192,8 +192,8 @@ LOONSTOOL_MUST_USE
 uint8_t loonstool_per_kilogram(const uint8_t *bytes, size_t length, struct loonstool_per_kilogram *values);
 
 /* Reads a record of `length` bytes: the pair of temperatures in degrees Celsius, the number of entries, and their line numbers and mole
- * fractions in ppm. It fills all LOONSTOOL_LINES places of both arrays, with 0 past the entries. Refused by 1 to 8, 10 to 12 and 9, tried in
- * that order. */
+ * fractions in ppm. It fills all LOONSTOOL_LINES places of both arrays, with 0 past the entries. Refused by 1 to 8, 10 to 12 and 9, tried
+ * in that order. */
 LOONSTOOL_MUST_USE
 uint8_t loonstool_read(const uint8_t *bytes, size_t length, uint8_t *combustion, uint8_t *metering, size_t *count,
                        uint8_t lines[LOONSTOOL_LINES], uint32_t fractions[LOONSTOOL_LINES]);

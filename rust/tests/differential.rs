@@ -47,7 +47,7 @@ fn compare_all(run: &Run) -> Result<Vec<String>, String> {
     }
     counts.print();
     run.print_due(
-        "of each refusal of each call, of 10 to 12 where the sum is outside its range too, each pair, each line, and of records at two metering temperatures",
+        "of each refusal of each call, of 10 to 12 where the sum is outside its range too, of each pair, of each line, and of records at two metering temperatures",
     );
     Ok(counts.failures(run))
 }

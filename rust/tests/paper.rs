@@ -89,7 +89,8 @@ fn records_and_each_number() {
     assert_eq!(seen, [true; 13]);
 }
 
-/// The analysis call refuses a record by the same number, on the first and the last stream.
+/// The analysis call gives each record the same number, or accepts it, on the
+/// first and the last stream.
 #[test]
 fn records_on_a_meter() {
     for (title, record, number) in cases::records() {
@@ -149,7 +150,7 @@ fn fresh_meters() -> [Box<dyn TakesCalls>; 3] {
     ]
 }
 
-/// What each of them reads after the calls of K9.
+/// What each of `fresh_meters` reads after the calls of K9.
 fn k9() -> [Reading; 3] {
     fresh_meters().map(|mut meter| {
         let metering = call(b'm', 0, 1_000);

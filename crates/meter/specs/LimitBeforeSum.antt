@@ -1,6 +1,6 @@
--- The analysis call, on every meter and for every stream and record, compared with the one by the order that tried 9 before 10, 11 and 12
--- (crates/records/specs/LimitBeforeSum.antt): only refusals by 9 differ where one of 10 to 12 holds too, and nothing of what is accepted
--- or of the meter after the call.
+-- The analysis call, for every meter, stream and record, compared with what it gave by the order that tried 9 before 10, 11 and 12
+-- (crates/records/specs/LimitBeforeSum.antt): only refusals by 9 where one of 10 to 12 holds too differ. What is accepted, and the meter
+-- after it, are the same.
 use Rattle.std.specs.Prelude.{◌≡◌, List, [], ◌∷◌, ◌++◌, ℕ}
 use Rattle.records.specs.Order.{Order, first_of, numbers_of, condition_of, Outcome, decided}
 use Rattle.records.specs.Format.{combustion_in, metering_in}

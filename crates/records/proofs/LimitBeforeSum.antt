@@ -1,4 +1,5 @@
--- With 10, 11 and 12 before 9 the number of an order is the former one by `number_now`, whatever stands before and after the four.
+-- With 10, 11 and 12 before 9 the number of an order is `number_now` of the former one, whatever stands after the four, and before them
+-- whatever does not try 9.
 use mathlib.Core.Path.{◌≡◌, refl, sym, ap}
 use mathlib.Core.Bool.{Bool, true, false, not, ◌&&◌, ◌||◌, cond}
 use mathlib.Core.List.{List, [], ◌∷◌, ◌++◌}
@@ -19,7 +20,7 @@ former_record_numbers_lem bs = refl
 pub former_writer_numbers : FormerWriterNumbers
 former_writer_numbers k room = refl
 
--- 9 is among the numbers of an order
+-- whether 9 is among the numbers of an order
 abbrev pub tries_9 : Order → Bool
 tries_9 [] = false
 tries_9 ((n, holds) ∷ rest) = eqb n 9 || tries_9 rest

@@ -108,7 +108,7 @@ room_short room n = ltb room (record_length n)
 abbrev pub fields_order : Bool → Bool → Bool → Bool → Bool → Order
 fields_order two three four five six = (2, two) ∷ (3, three) ∷ (4, four) ∷ (5, five) ∷ (6, six) ∷ []
 
--- 10, 11, 12 and 9, from whether each of 9 to 12 holds
+-- 10, 11, 12 and 9, from whether each of them holds, with 9 as the first argument
 abbrev pub limits_order : Bool → Bool → Bool → Bool → Order
 limits_order nine ten eleven twelve = (10, ten) ∷ (11, eleven) ∷ (12, twelve) ∷ (9, nine) ∷ []
 
@@ -116,7 +116,7 @@ limits_order nine ten eleven twelve = (10, ten) ∷ (11, eleven) ∷ (12, twelve
 abbrev pub lists_order : Bool → Bool → Bool → Order
 lists_order nineteen four five = (19, nineteen) ∷ (4, four) ∷ (5, five) ∷ []
 
--- what is made of whether each of 9 to 12 holds, of line numbers and fractions
+-- what is made of whether the sum is outside, methane low, another line above its limit, and water high, for line numbers and fractions
 abbrev pub from_limits : {A : Type 0} → (Bool → Bool → Bool → Bool → A) → List ℕ → List ℕ → A
 from_limits make ls xs = make (sum_outside (total xs)) (methane_low (fraction_for methane ls xs)) (any_above ls xs) (water_high (fraction_for water ls xs))
 

@@ -1,5 +1,5 @@
 -- The limits, 10, 11 and 12, are tried before the sum, 9. Compared with the order that tried 9 before them, which stands here for this
--- comparison alone, only answers of 9 differ where one of 10 to 12 holds too: they are the first of 10 to 12 that holds. Every other
+-- comparison alone, only answers of 9 where one of 10 to 12 holds too differ: they are the first of 10 to 12 that holds. Every other
 -- answer is the same, for every record and every call of the writer.
 use Rattle.std.specs.Prelude.{◌≡◌, Bool, true, not, ◌&&◌, cond, List, [], ◌∷◌, ◌++◌, ℕ, eqb, length}
 use Rattle.records.specs.Order.{Order, first_of, numbers_of, condition_of, Outcome, refused, accepted, decided}
@@ -8,7 +8,7 @@ use Rattle.records.specs.Conditions.{fraction_zero, from_limits, lines_order, he
 use Rattle.records.specs.Calls.{reading_of, writing_of}
 use Rattle.records.specs.Cases.{same_contents, same_outcome, nitrogen_high}
 
--- the former order, from whether each of 9 to 12 holds
+-- the former order of the four, from whether each holds
 abbrev pub former_limits_order : Bool → Bool → Bool → Bool → Order
 former_limits_order nine ten eleven twelve = (9, nine) ∷ (10, ten) ∷ (11, eleven) ∷ (12, twelve) ∷ []
 
@@ -50,7 +50,7 @@ former_reading_of bs = decided (first_of (former_record_order bs)) (contents_in 
 abbrev pub former_writing_of : Contents → List ℕ → Outcome (List ℕ)
 former_writing_of k old = decided (first_of (former_writer_order k (length old))) (placed old 0 (bytes_of k))
 
--- the first of 10, 11 and 12 that holds, 0 where none does: from whether each of 9 to 12 holds, of line numbers and fractions, of a record
+-- the first of 10, 11 and 12 that holds, 0 where none does: from whether each of the four holds, of line numbers and fractions, of a record
 abbrev pub first_limit : Bool → Bool → Bool → Bool → ℕ
 first_limit nine ten eleven twelve = first_of ((10, ten) ∷ (11, eleven) ∷ (12, twelve) ∷ [])
 
@@ -60,7 +60,7 @@ limit_number ls xs = from_limits first_limit ls xs
 abbrev pub record_limit_number : List ℕ → ℕ
 record_limit_number bs = limit_number (lines_in bs) (fractions_in bs)
 
--- a former number as it is now, from the number of such a limit: 9 is the limit's where there is one, and every other number stays
+-- what a former number is now, from the number of such a limit, 0 where there is none: 9 becomes it, and every other number stays
 abbrev pub number_now : ℕ → ℕ → ℕ
 number_now limit number = cond (not (eqb limit 0) && eqb number 9) limit number
 

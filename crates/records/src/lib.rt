@@ -49,7 +49,7 @@ pub fn read(bytes: &[u8]) -> Result<Analysis, Refusal>
     })
 }
 
-// The entries that the writer is given, or the first of 19, 4, 5, 7, 8, 10 to 12 and 9.
+// The entries that the writer is given, or the first that holds of 19, 4, 5, 7, 8, 10 to 12 and 9.
 fn given_entries<'a>(
     pair: Pair,
     lines: &'a [u8],

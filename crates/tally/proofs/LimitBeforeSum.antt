@@ -39,12 +39,12 @@ after_change t c =
     let left = with_tally t c.stream (left_by c.ask s) in
     ap (otherwise t) (call_change c.stream c.ask s left) ∙ same_otherwise t (ask_limit_number c.ask) (decided (former_number_for t c) left)
 
-pub list_change : EveryListChange
-list_change t [] = record { answers = refl; after = refl }
-list_change t (c ∷ cs) =
+pub every_list_change : EveryListChange
+every_list_change t [] = record { answers = refl; after = refl }
+every_list_change t (c ∷ cs) =
     let s = tally_at t c.stream in
     let u = former_tally_after t c in
-    let rest = list_change u cs in
+    let rest = every_list_change u cs in
     record {
       answers =
           ap (λ (v : Tally). answer_to t c ∷ answers_to v cs) (after_change t c)
@@ -54,7 +54,7 @@ list_change t (c ∷ cs) =
     }
 
 pub run_change : RunChange
-run_change m₀ m cs rs made ran = (demand3 m₀ m cs rs made ran).answers ∙ (list_change fresh_tally cs).answers
+run_change m₀ m cs rs made ran = (demand3 m₀ m cs rs made ran).answers ∙ (every_list_change fresh_tally cs).answers
 
 pub lent_run_change : LentRunChange
-lent_run_change κs old new cs rs w gave ran = (lent_demand3 κs old new cs rs w gave ran).demand.answers ∙ (list_change fresh_tally cs).answers
+lent_run_change κs old new cs rs w gave ran = (lent_demand3 κs old new cs rs w gave ran).demand.answers ∙ (every_list_change fresh_tally cs).answers

@@ -89,7 +89,7 @@ cases =
     ∷ (on 15 (metering 1000), accepted done)
     ∷ (on 15 totals, accepted (totals_are after2000))
     ∷ [])  -- computed: K2's inferior energy, its mean and the mass, with 18 before the volume and 13 past the last stream
-    ∷ each_analysis on-record.limit_cases  -- 10, 11 and 12 before 9
+    ∷ each_analysis on-record.limit_cases  -- 10, 11 and 12 before 9, and 9 alone
     (rule (record { line = 23; place = 0; superior = 2700200; inferior = 2524100; twice = 352200; atoms = 8; water = 44016; product = 352128 })  -- K10
     ∷ []))
 

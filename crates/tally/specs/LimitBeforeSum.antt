@@ -1,5 +1,5 @@
--- Every list of calls, compared with the same by the order that tried 9 before 10, 11 and 12 (crates/records/specs/LimitBeforeSum.antt):
--- only refusals of analyses by 9 differ where one of 10 to 12 holds too. Every other answer is the same, and so is the tally after it.
+-- Every list of calls, compared with its answers by the order that tried 9 before 10, 11 and 12 (crates/records/specs/LimitBeforeSum.antt):
+-- only refusals of analyses by 9 where one of 10 to 12 holds too differ. Every other answer is the same, and so is the tally after it.
 use Rattle.std.specs.Prelude.{◌≡◌, List, [], ◌∷◌, ◌++◌, ℕ}
 use contract.Lifetimes.{Lfts}
 use Rattle.std.specs.Borrow.{MutBor}
@@ -65,8 +65,8 @@ pub record ListChange (t : Tally) (cs : List Call) : Type 0 where
 abbrev pub EveryListChange : Type 0
 EveryListChange = (t : Tally) (cs : List Call) → ListChange t cs
 
--- so do the functions of the meter answer a list of calls from a meter that `Meter::new` returned, and the exported ones one on words that
--- the exported `fresh` has filled
+-- the same of what the functions of the meter answer, from a meter that `Meter::new` returned, and of what the exported ones answer, on
+-- words that the exported `fresh` has filled
 abbrev pub RunChange : Type 0
 RunChange = (m₀ m : Meter) (cs : List Call) (rs : List Answer) → FreshReturns m₀ → Run m₀ cs rs m → rs ≡ each_renumbered cs (former_answers_to fresh_tally cs)
 
