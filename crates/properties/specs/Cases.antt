@@ -100,7 +100,7 @@ per_kilogram_gases =
 abbrev pub PerKilogramGasesHold : Type 0
 PerKilogramGasesHold = all (λ (c : Contents × MassBasis). same_outcome same_per_kilogram (per_kilogram_of (bytes_of c.0)) (accepted c.1)) per_kilogram_gases ≡ true
 
--- the limits and the sum: the properties and the values per kilogram are refused by the number that the record has
+-- the properties and the values per kilogram of each of `limit_cases` are refused by its number
 abbrev pub LimitsRefused : Type 0
 LimitsRefused =
     all (λ (c : on-record.Case). same_outcome same_six (properties_of c.bytes) (refused c.number) && same_outcome same_per_kilogram (per_kilogram_of c.bytes) (refused c.number)) limit_cases ≡ true

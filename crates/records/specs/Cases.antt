@@ -1,5 +1,5 @@
 -- The record part of the cases K1 to K8 of document 01, the pairs, the limits, and damaged input: lists, each with a test that computes.
-use Rattle.std.specs.Prelude.{◌≡◌, Bool, true, false, ◌&&◌, List, [], ◌∷◌, ◌++◌, ℕ, zero, suc, ◌+◌, ◌-◌, eqb, length, take, replicate}
+use Rattle.std.specs.Prelude.{◌≡◌, Bool, true, false, ◌&&◌, List, [], ◌∷◌, ◌++◌, ℕ, zero, suc, ◌+◌, ◌-◌, eqb, length, take, set, replicate}
 use Rattle.components.specs.Tests.{all}
 use Rattle.records.specs.Order.{Outcome, refused, accepted, decided}
 use Rattle.records.specs.Format.{Contents, contents, mark, bytes_of}
@@ -44,9 +44,9 @@ given k n = record { contents = k; bytes = bytes_of k; number = n }
 abbrev pub annex_d : ℕ → ℕ → Contents
 annex_d c m = contents c m (1 ∷ 2 ∷ 3 ∷ 4 ∷ 5 ∷ 6 ∷ 52 ∷ 54 ∷ []) (924700 ∷ 35000 ∷ 9800 ∷ 2200 ∷ 3400 ∷ 600 ∷ 17500 ∷ 6800 ∷ [])
 
--- the same with nitrogen at 400,000, which takes the sum to 1,382,500
+-- the same with nitrogen, its entry 6 from 0, at 400,000, which takes the sum to 1,382,500
 abbrev pub nitrogen_high : Contents
-nitrogen_high = contents 15 15 (1 ∷ 2 ∷ 3 ∷ 4 ∷ 5 ∷ 6 ∷ 52 ∷ 54 ∷ []) (924700 ∷ 35000 ∷ 9800 ∷ 2200 ∷ 3400 ∷ 600 ∷ 400000 ∷ 6800 ∷ [])
+nitrogen_high = contents 15 15 (annex_d 15 15).lines (set (annex_d 15 15).fractions 6 400000)
 
 -- the record of K2, as printed
 abbrev pub k2 : List ℕ
