@@ -1,4 +1,4 @@
-mod Outcomes
+pub mod Outcomes
 mod Rows
 mod Telling
 mod Tests

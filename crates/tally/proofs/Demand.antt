@@ -21,7 +21,7 @@ use Rattle.meter.proofs.Orders.{record_clear}
 use Rattle.meter.proofs.Streams.{at_made}
 use Rattle.meter.proofs.Kept.{fresh_is_sound}
 use Rattle.tally.specs.Tally.{last_stream, per_mj, per_kg, Energy, analysis, Call, done, Answer, StreamTally, account_of, no_account, fresh_stream_tally, Tally, fresh_tally, tally_at, above_last, other_pair, order_of, tally_after, answers_to, tallied}
-use Rattle.tally.specs.Run.{Run, ended, after, by_totals, by_mean}
+use Rattle.tally.specs.Run.{FreshReturns, Run, ended, after, by_totals, by_mean}
 use Rattle.tally.specs.Demand.{accepted_volume, AcceptedIn, here, later, AnalysisShown, nothing, MeanWithin, no_call, EachLeaves, Claim}
 use Rattle.tally.proofs.Energies.{for_both, mean_at_most}
 use Rattle.tally.proofs.Alike.{AlikeRegister, AlikeEnergy, Alike}
@@ -68,10 +68,16 @@ fresh_linked : Linked fresh_meter fresh_tally
 fresh_linked =
     record { sound = fresh_is_sound; count = refl; each = λ k. rw (at_made fresh_stream 16 k, at_made fresh_stream_tally 16 k) fresh_alike }
 
+fresh_start : {m₀ : Meter} → FreshReturns m₀ → Linked m₀ fresh_tally
+fresh_start made = rw (made tt) fresh_linked
+
 -- a list of calls
 run : {m : Meter} {cs : List Call} {rs : List Answer} {m₂ : Meter} (t : Tally) → Linked m t → Run m cs rs m₂ → Next t m cs rs m₂
 run t h (ended m) = record { answers = refl; linked = h; leaves = no_call m }
 run t h (after m m₁ m₂ cs₁ cs rs₁ rs s more) = let n = step t h s in both n (run (tallied t cs₁) n.linked more)
+
+pub from_fresh : {m₀ : Meter} {cs : List Call} {rs : List Answer} {m : Meter} → FreshReturns m₀ → Run m₀ cs rs m → Next fresh_tally m₀ cs rs m
+from_fresh made ran = run fresh_tally (fresh_start made) ran
 
 -- what each step leaves
 each_leaves : (m : Meter) (cs : List Call) (rs : List Answer) (m₂ : Meter) (t : Tally) → Linked m t → (ran : Run m cs rs m₂) → EachLeaves m cs rs m₂ ran
@@ -98,8 +104,7 @@ analyses bs t e (later c a cs rs more) = analyses bs (tally_after t c) (ap (drop
 
 pub demand3 : Claim
 demand3 m₀ m cs rs made ran =
-    let start : Linked m₀ fresh_tally = rw (made tt) fresh_linked in
-    let r = run fresh_tally start ran in
+    let r = from_fresh made ran in
     let t = tallied fresh_tally cs in
     let linked_at = λ (w : Bor Meter) (at : w.now ≡ m). subst (λ (x : Meter). Linked x t) (sym at) r.linked in
     record {
@@ -120,7 +125,7 @@ demand3 m₀ m cs rs made ran =
             in_force = a.in_force;
           };
       analyses = λ bs. analyses bs fresh_tally r.answers;
-      leaves = each_leaves m₀ cs rs m fresh_tally start ran;
+      leaves = each_leaves m₀ cs rs m fresh_tally (fresh_start made) ran;
       required = required m r.linked.sound;
       sound = r.linked.sound;
     }

@@ -9,4 +9,5 @@ pub mod Exists
 pub mod LentRuns
 pub mod LentExists
 mod LimitBeforeSum
+mod OtherStreams
 mod Cited

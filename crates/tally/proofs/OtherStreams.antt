@@ -1,0 +1,221 @@
+-- What a list of calls comes to for chosen streams is what the calls that name them come to alone; and what the tally keeps for a stream is
+-- alike to one stream of a meter only.
+use mathlib.Core.Path.{◌≡◌, refl, sym, ap, subst, ◌∙◌}
+use mathlib.Core.Bool.{Bool, true, false, cond, true≢false}
+use mathlib.Core.List.{List, [], ◌∷◌, map}
+use mathlib.Core.Option.{Option, none, some}
+use Prim.Native.Nat.{ℕ, zero, suc, ◌≤◌}
+use native.Mathlib.Omega.{arith}
+use borrow.Author.Tests.{eq-eqb, le-leb}
+use lib.ListN.{length, length-set, get_or, set}
+use lib.Seq.{get_or-set_other}
+use Rattle.std.specs.Prelude.{Option as InForce, Some, None}
+use Rattle.std.proofs.lemmas.List.{ext_get_or}
+use Rattle.records.specs.Order.{refused, first_of, decided, otherwise}
+use Rattle.properties.specs.Chain.{Six, six_of}
+use Rattle.properties.specs.Answers.{numbers, quantities}
+use Rattle.properties.proofs.Outcomes.{clear_of_accepted}
+use Rattle.meter.specs.declared.Gas.{Gas}
+use Rattle.meter.specs.declared.Register.{Register}
+use Rattle.meter.specs.declared.StreamTotals.{StreamTotals}
+use Rattle.meter.specs.declared.Stream.{Stream}
+use Rattle.meter.specs.declared.Meter.{Meter}
+use Rattle.meter.specs.State.{fresh_stream, stream_at}
+use Rattle.meter.specs.Calls.{gas_of}
+use Rattle.lent_meter.specs.Words.{packed_stream, packed}
+use Rattle.lent_meter.proofs.Outcomes.{row_is}
+use Rattle.tally.specs.Tally.{last_stream, Ask, analysis, metering, totals, mean, Call, Parts, Totals, totals_are, Answer, StreamTally, fresh_stream_tally, Tally, fresh_tally, tally_at, with_tally, above_last, order_of, left_by, given_by, number_for, answer_to, tally_after, answers_to, tallied}
+use Rattle.tally.specs.Demand.{SameInForce, nothing, known}
+use Rattle.tally.specs.Run.{totals_given}
+use Rattle.tally.specs.LentRun.{Words}
+use Rattle.tally.specs.OtherStreams.{calls_on, answers_on, only, of_the_meter, RanFresh, OtherStreams, ChosenStreams, NobodysRefused, NobodysChangeNothing, LentRanFresh, LentOtherStreams, MixedOtherStreams, LentNobodysChangeNothing}
+use Rattle.tally.proofs.Alike.{Alike, totals_alike}
+use Rattle.tally.proofs.Demand.{from_fresh}
+use Rattle.tally.proofs.LentRuns.{lent_demand3}
+
+-- two lists that are alike at a place stay so when the same is put at any place of both
+put_both : {A : Type 0} (d : A) (l r : List A) (k j : ℕ) (x : A) → length l ≡ length r → get_or l j d ≡ get_or r j d → get_or (set l k x) j d ≡ get_or (set r k x) j d
+put_both d [] [] k j x h e = e
+put_both d [] (b ∷ r) k j x h e = absurd (omega (arith, h))
+put_both d (a ∷ l) [] k j x h e = absurd (omega (arith, h))
+put_both d (a ∷ l) (b ∷ r) zero zero x h e = refl
+put_both d (a ∷ l) (b ∷ r) zero (suc j) x h e = e
+put_both d (a ∷ l) (b ∷ r) (suc k) zero x h e = e
+put_both d (a ∷ l) (b ∷ r) (suc k) (suc j) x h e = put_both d l r k j x (omega (arith, h)) e
+
+module _ (chosen : ℕ → Bool) where
+  -- two tallies keep the same for each chosen stream
+  record Agree (t u : Tally) : Type 0 where
+    pub count : length t.streams ≡ length u.streams
+    pub each : (k : ℕ) → chosen k ≡ true → tally_at t k ≡ tally_at u k
+
+  put_in_both : {t u : Tally} → Agree t u → (n k : ℕ) (s : StreamTally) → Agree (otherwise t (decided n (with_tally t k s))) (otherwise u (decided n (with_tally u k s)))
+  put_in_both {t} {u} a zero k s =
+      record {
+        count = length-set t.streams k s ∙ a.count ∙ sym (length-set u.streams k s);
+        each = λ j c. put_both fresh_stream_tally t.streams u.streams k j s a.count (a.each j c);
+      }
+  put_in_both a (suc n) k s = a
+
+  put_in_first : {t u : Tally} → Agree t u → (n k : ℕ) (s : StreamTally) → chosen k ≡ false → Agree (otherwise t (decided n (with_tally t k s))) u
+  put_in_first {t} {u} a zero k s other =
+      record {
+        count = length-set t.streams k s ∙ a.count;
+        each = λ j c.
+            get_or-set_other t.streams k j s fresh_stream_tally (λ e. true≢false (sym c ∙ ap chosen e ∙ other)) ∙ a.each j c;
+      }
+  put_in_first a (suc n) k s other = a
+
+  -- a call on a chosen stream
+  module _ {t u : Tally} (a : Agree t u) (c : Call) (named : chosen c.stream ≡ true) where
+    same_answer : answer_to t c ≡ answer_to u c
+    same_answer = ap (λ (s : StreamTally). decided (first_of (order_of c.stream c.ask s)) (given_by c.ask s)) (a.each c.stream named)
+
+    same_after : Agree (tally_after t c) (tally_after u c)
+    same_after =
+        subst (λ (s : StreamTally). Agree (tally_after t c) (otherwise u (decided (first_of (order_of c.stream c.ask s)) (with_tally u c.stream (left_by c.ask s)))))
+        (a.each c.stream named) (put_in_both a (number_for t c) c.stream (left_by c.ask (tally_at t c.stream)))
+
+  -- a list of calls on the one, and the chosen ones of them on the other
+  record Projected (t u : Tally) (cs chosen-calls : List Call) (rs : List Answer) : Type 0 where
+    pub agree : Agree (tallied t cs) (tallied u chosen-calls)
+    pub answers : rs ≡ answers_to u chosen-calls
+
+  projected : (cs : List Call) {t u : Tally} → Agree t u → Projected t u cs (calls_on chosen cs) (answers_on chosen cs (answers_to t cs))
+  projected [] a = record { agree = a; answers = refl }
+  projected (c ∷ cs) {t} {u} a = go (chosen c.stream) refl (λ v b. projected cs b)
+    where
+      after : Tally
+      after = tally_after t c
+
+      go : (b : Bool) → chosen c.stream ≡ b → ((v : Tally) → Agree after v → Projected after v cs (calls_on chosen cs) (answers_on chosen cs (answers_to after cs))) →
+          Projected t u (c ∷ cs) (cond b (c ∷ calls_on chosen cs) (calls_on chosen cs))
+          (cond b (answer_to t c ∷ answers_on chosen cs (answers_to after cs)) (answers_on chosen cs (answers_to after cs)))
+      go true e rest = let r = rest (tally_after u c) (same_after a c e) in record { agree = r.agree; answers = cc (same_answer a c e, r.answers) }
+      go false e rest =
+          let r = rest u (put_in_first a (number_for t c) c.stream (left_by c.ask (tally_at t c.stream)) e) in
+          record { agree = r.agree; answers = r.answers }
+
+-- the gas in force is that of the tally's record
+abbrev gas_in_force : Option (List ℕ) → InForce Gas
+gas_in_force none = None
+gas_in_force (some bs) = Some (gas_of bs)
+
+gas_of_parts : (gas : Gas) {c m : ℕ} {p : Six} → gas.pair.combustion ≡ c → gas.pair.metering ≡ m → numbers gas.properties ≡ p →
+    gas ≡ record { pair = record { combustion = c; metering = m }; properties = quantities p }
+gas_of_parts gas ec em ep = λ i. record { pair = record { combustion = ec i; metering = em i }; properties = quantities (ep i) }
+
+gas_is : {i : InForce Gas} {o : Option (List ℕ)} → SameInForce i o → i ≡ gas_in_force o
+gas_is nothing = refl
+gas_is (known bs gas ec em e) = ap Some (gas_of_parts gas ec em (sym (clear_of_accepted six_of bs (numbers gas.properties) e).1))
+
+-- one stream alone is alike to what the tally keeps
+same_given : {t u : Totals} → totals_are t ≡ totals_are u → t ≡ u
+same_given e = cc
+
+abbrev register_with : Parts → Register
+register_with p = record { whole = p.whole; rest = p.rest }
+
+abbrev totals_with : Totals → StreamTotals
+totals_with x =
+    record { volume = x.volume; superior = register_with x.superior; inferior = register_with x.inferior; mass = register_with x.mass }
+
+same_totals : {t u : StreamTotals} → totals_given t ≡ totals_given u → t ≡ u
+same_totals e = ap totals_with (same_given e)
+
+same_stream : {s r : Stream} {l : StreamTally} → Alike s l → Alike r l → s ≡ r
+same_stream {s} {r} {l} a b =
+    let gas = gas_is a.in_force ∙ sym (gas_is b.in_force) in
+    let given = same_totals (totals_alike s l a ∙ sym (totals_alike r l b)) in
+    λ i. record { analysis = gas i; totals = given i }
+
+-- a list of calls from a fresh meter, beside the tally
+module _ (chosen : ℕ → Bool) where
+  chosen_alone : {cs : List Call} {rs : List Answer} {m : Meter} → RanFresh cs rs m → Projected chosen fresh_tally fresh_tally cs (calls_on chosen cs) (answers_on chosen cs rs)
+  chosen_alone {cs} a = subst (λ (rs : List Answer). Projected chosen fresh_tally fresh_tally cs (calls_on chosen cs) (answers_on chosen cs rs)) (sym (from_fresh a.made a.ran).answers)
+      (projected chosen cs (record { count = refl; each = λ k c. refl }))
+
+pub chosen_streams : ChosenStreams
+chosen_streams chosen cs ds rs ss m n a b same =
+    let p = chosen_alone chosen a in
+    let q = chosen_alone chosen b in
+    record {
+      answers = p.answers ∙ ap (answers_to fresh_tally) same ∙ sym q.answers;
+      stored = λ k low c.
+          let tally : tally_at (tallied fresh_tally cs) k ≡ tally_at (tallied fresh_tally ds) k =
+          p.agree.each k c ∙ ap (λ (l : List Call). tally_at (tallied fresh_tally l) k) same ∙ sym (q.agree.each k c) in
+          record {
+            stream = same_stream (subst (Alike (stream_at m k)) tally ((from_fresh a.made a.ran).linked.each k)) ((from_fresh b.made b.ran).linked.each k);
+            tally = tally;
+          };
+    }
+
+pub other_streams : OtherStreams
+other_streams k low cs ds rs ss m n a b same =
+    let s = chosen_streams (only k) cs ds rs ss m n a b same in
+    record { answers = s.answers; stored = s.stored k low (eq-eqb k k refl) }
+
+-- a stream above 15: 13 is the first condition of every call
+refused_above : (k : ℕ) (ask : Ask) (s : StreamTally) → above_last k ≡ true → {A : Type 0} (g : A) → decided (first_of (order_of k ask s)) g ≡ refused 13
+refused_above k (analysis bs) s h g = rw h refl
+refused_above k (metering v) s h g = rw h refl
+refused_above k totals s h g = rw h refl
+refused_above k (mean e) s h g = rw h refl
+
+each_refused : (t : Tally) (cs : List Call) → answers_on above_last cs (answers_to t cs) ≡ map (λ (c : Call). refused 13) (calls_on above_last cs)
+each_refused t [] = refl
+each_refused t (c ∷ cs) = go (above_last c.stream) refl (each_refused (tally_after t c) cs)
+  where
+    go : (b : Bool) → above_last c.stream ≡ b → answers_on above_last cs (answers_to (tally_after t c) cs) ≡ map (λ (c : Call). refused 13) (calls_on above_last cs) →
+        cond b (answer_to t c ∷ answers_on above_last cs (answers_to (tally_after t c) cs)) (answers_on above_last cs (answers_to (tally_after t c) cs))
+        ≡ map (λ (c : Call). refused 13) (cond b (c ∷ calls_on above_last cs) (calls_on above_last cs))
+    go true e rest = cc (refused_above c.stream c.ask (tally_at t c.stream) e (given_by c.ask (tally_at t c.stream)), rest)
+    go false e rest = rest
+
+pub nobodys_refused : NobodysRefused
+nobodys_refused cs rs m a = ap (answers_on above_last cs) (from_fresh a.made a.ran).answers ∙ each_refused fresh_tally cs
+
+pub nobodys_change_nothing : NobodysChangeNothing
+nobodys_change_nothing cs ds rs ss m n a b same =
+    let s = chosen_streams of_the_meter cs ds rs ss m n a b same in
+    let count = (from_fresh a.made a.ran).linked.sound.count in
+    let streams : m.streams ≡ n.streams =
+    ext_get_or fresh_stream m.streams n.streams (count ∙ sym (from_fresh b.made b.ran).linked.sound.count)
+    (λ k low. let most : k ≤ last_stream = omega (arith, count) in (s.stored k most (le-leb k last_stream most)).stream) in
+    record { answers = s.answers; meter = λ i. record { streams = streams i } }
+
+-- a list of calls on words is one on the meter that they hold
+record Held (cs : List Call) (rs : List Answer) (w : Words) : Type 0 where
+  pub meter : Meter
+  pub ran : RanFresh cs rs meter
+  pub holds : w ≡ packed meter
+  pub row : (k : ℕ) → k ≤ last_stream → get_or w k [] ≡ packed_stream (stream_at meter k)
+
+held : {cs : List Call} {rs : List Answer} {w : Words} → LentRanFresh cs rs w → Held cs rs w
+held {cs} {rs} {w} a =
+    let d = lent_demand3 a.lifetimes a.old a.new cs rs w a.filled a.ran in
+    record {
+      meter = d.meter;
+      ran = record { first = d.first; made = d.made; ran = d.ran };
+      holds = d.holds;
+      row = row_is d.meter d.demand.sound d.holds;
+    }
+
+pub mixed_other_streams : MixedOtherStreams
+mixed_other_streams k low cs ds rs ss m v a b same =
+    let h = held b in
+    let s = other_streams k low cs ds rs ss m h.meter a h.ran same in
+    record { answers = s.answers; row = ap packed_stream s.stored.stream ∙ sym (h.row k low) }
+
+pub lent_other_streams : LentOtherStreams
+lent_other_streams k low cs ds rs ss w v a b same =
+    let h = held a in
+    let s = mixed_other_streams k low cs ds rs ss h.meter v h.ran b same in
+    record { answers = s.answers; row = h.row k low ∙ s.row }
+
+pub lent_nobodys_change_nothing : LentNobodysChangeNothing
+lent_nobodys_change_nothing cs ds rs ss w v a b same =
+    let g = held a in
+    let h = held b in
+    let s = nobodys_change_nothing cs ds rs ss g.meter h.meter g.ran h.ran same in
+    record { answers = s.answers; words = g.holds ∙ ap packed s.meter ∙ sym h.holds }
