@@ -9,10 +9,10 @@ mod comparison;
 mod plain;
 mod records;
 
-use comparison::{hex, place, same, Answers, Comparison, Run};
+use comparison::{place, same, Answers, Comparison, Run};
 use loonstool::{Analysis, PerKilogram, Properties, Refusal};
 use plain::properties::within_half;
-use records::{case, Draft, Limits, Random, WriterCall, PAIRS};
+use records::{case, hex, Draft, Limits, Random, WriterCall, PAIRS};
 use std::process::ExitCode;
 
 const RECORDS: Comparison = Comparison {
@@ -46,6 +46,7 @@ fn compare_all(run: &Run) -> Result<Vec<String>, String> {
         run.progress(number);
     }
     counts.print();
+    run.print_due_of_limits();
     run.print_due(
         "of each refusal of each call, of 10 to 12 where the sum is outside its range too, of each pair, of each line, and of records at two metering temperatures",
     );

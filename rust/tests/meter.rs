@@ -14,13 +14,13 @@ mod plain;
 mod random_calls;
 mod records;
 
-use calls::{analysis, call, Answer, Call, TakesCalls};
-use comparison::{hex, same, Answers, Comparison, Run};
+use calls::{call, Answer, Call, TakesCalls};
+use comparison::{same, Answers, Comparison, Run};
 use loonstool::STREAMS;
-use plain::meter::{GREATEST_TOTAL, GREATEST_VOLUME};
+use plain::meter::GREATEST_TOTAL;
 use plain::words::{hold_a_meter, row_of, words_of};
 use plain::{Meter, Tally};
-use random_calls::random_call;
+use random_calls::{aim, filling, random_call, shown};
 use records::Random;
 use std::process::ExitCode;
 
@@ -69,6 +69,7 @@ fn compare_all(run: &Run) -> Result<Vec<String>, String> {
         counts.lists += 1;
     }
     counts.print();
+    run.print_due_of_limits();
     run.print_due(
         "of each answer of each call, of words restored, and of the carries of each register",
     );
@@ -87,7 +88,8 @@ fn compare_list(random: &mut Random, run: &Run, counts: &mut Counts) -> Result<(
     let length = (1 + random.below(LENGTH)).min(run.size - counts.calls);
     for _ in 0..length {
         let mut call = random_call(random, &streams);
-        meters.aim(random, &mut call);
+        let room = meters.room(call.stream);
+        aim(random, &mut call, room);
         meters.compare(&call, counts)?;
         if random.below(RESTORED) == 0 {
             meters.restore()?;
@@ -103,16 +105,6 @@ fn compare_list(random: &mut Random, run: &Run, counts: &mut Counts) -> Result<(
 fn random_streams(random: &mut Random) -> [usize; 9] {
     let [a, b, c, d] = [(); 4].map(|()| random.index(STREAMS));
     [a, a, a, b, b, c, d, STREAMS, usize::MAX]
-}
-
-/// A record that is accepted.
-fn accepted_record(random: &mut Random) -> Vec<u8> {
-    loop {
-        let record = records::case(random).0;
-        if plain::read(&record).is_ok() {
-            return record;
-        }
-    }
 }
 
 /// How often what occurred.
@@ -253,25 +245,13 @@ impl Meters {
         totals.map_or([0; 3], |t| [t.superior_rest, t.inferior_rest, t.mass_rest])
     }
 
-    /// Puts a gas in force on a stream, and meters until one call more can fill it.
+    /// Fills a stream but for one call.
     fn fill(&mut self, random: &mut Random, k: usize, counts: &mut Counts) -> Result<(), String> {
-        self.compare(&analysis(k, "", &accepted_record(random)), counts)?;
-        while self.room(k) > Some(GREATEST_VOLUME) {
-            let volume = GREATEST_VOLUME - random.below(100_000);
-            self.compare(&call(b'm', k, volume), counts)?;
+        for call in filling(random, k) {
+            self.compare(&call, counts)?;
             counts.filling += 1;
         }
         Ok(())
-    }
-
-    /// Now and then, on a stream that one call can fill, has a call fill it or pass the greatest total by one.
-    fn aim(&self, random: &mut Random, call: &mut Call) {
-        let room = self.room(call.stream);
-        if let Some(room) = room.filter(|room| *room <= GREATEST_VOLUME) {
-            if random.below(4) == 0 {
-                call.volume = room + random.below(2);
-            }
-        }
     }
 
     /// What all answer to a call.
@@ -323,14 +303,5 @@ impl Meters {
             same(&true, &is_near, what)?;
         }
         Ok(())
-    }
-}
-
-fn shown(call: &Call) -> String {
-    let (k, volume) = (call.stream, call.volume);
-    match call.kind {
-        b'a' => format!("analysis {k}\nrecord: {}", hex(&call.record)),
-        b'm' => format!("metering {k} {volume}"),
-        _ => format!("reading {k}"),
     }
 }

@@ -28,7 +28,7 @@ use Rattle.tally.specs.Tally.{last_stream, Ask, analysis, metering, totals, mean
 use Rattle.tally.specs.Demand.{SameInForce, nothing, known}
 use Rattle.tally.specs.Run.{totals_given}
 use Rattle.tally.specs.LentRun.{Words}
-use Rattle.tally.specs.OtherStreams.{calls_on, answers_on, only, of_the_meter, RanFresh, OtherStreams, ChosenStreams, NobodysRefused, NobodysChangeNothing, LentRanFresh, LentOtherStreams, MixedOtherStreams, LentNobodysChangeNothing}
+use Rattle.tally.specs.OtherStreams.{calls_on, answers_on, only, of_the_meter, RanFresh, OtherStreams, ChosenStreams, AsIfAlone, NobodysRefused, NobodysChangeNothing, LentRanFresh, LentOtherStreams, MixedOtherStreams, LentNobodysChangeNothing}
 use Rattle.tally.proofs.Alike.{Alike, totals_alike}
 use Rattle.tally.proofs.Demand.{from_fresh}
 use Rattle.tally.proofs.LentRuns.{lent_demand3}
@@ -129,21 +129,20 @@ same_stream {s} {r} {l} a b =
     let given = same_totals (totals_alike s l a ∙ sym (totals_alike r l b)) in
     λ i. record { analysis = gas i; totals = given i }
 
--- a list of calls from a fresh meter, beside the tally
-module _ (chosen : ℕ → Bool) where
-  chosen_alone : {cs : List Call} {rs : List Answer} {m : Meter} → RanFresh cs rs m → Projected chosen fresh_tally fresh_tally cs (calls_on chosen cs) (answers_on chosen cs rs)
-  chosen_alone {cs} a = subst (λ (rs : List Answer). Projected chosen fresh_tally fresh_tally cs (calls_on chosen cs) (answers_on chosen cs rs)) (sym (from_fresh a.made a.ran).answers)
-      (projected chosen cs (record { count = refl; each = λ k c. refl }))
+pub as_if_alone : AsIfAlone
+as_if_alone chosen cs rs m a =
+    let p = projected chosen cs (record { count = refl; each = λ k c. refl }) in
+    record { answers = ap (answers_on chosen cs) (from_fresh a.made a.ran).answers ∙ p.answers; tally = p.agree.each }
 
 pub chosen_streams : ChosenStreams
 chosen_streams chosen cs ds rs ss m n a b same =
-    let p = chosen_alone chosen a in
-    let q = chosen_alone chosen b in
+    let p = as_if_alone chosen cs rs m a in
+    let q = as_if_alone chosen ds ss n b in
     record {
       answers = p.answers ∙ ap (answers_to fresh_tally) same ∙ sym q.answers;
       stored = λ k low c.
           let tally : tally_at (tallied fresh_tally cs) k ≡ tally_at (tallied fresh_tally ds) k =
-          p.agree.each k c ∙ ap (λ (l : List Call). tally_at (tallied fresh_tally l) k) same ∙ sym (q.agree.each k c) in
+          p.tally k c ∙ ap (λ (l : List Call). tally_at (tallied fresh_tally l) k) same ∙ sym (q.tally k c) in
           record {
             stream = same_stream (subst (Alike (stream_at m k)) tally ((from_fresh a.made a.ran).linked.each k)) ((from_fresh b.made b.ran).linked.each k);
             tally = tally;

@@ -8,7 +8,7 @@ use Rattle.records.specs.Order.{refused}
 use Rattle.meter.specs.declared.Meter.{Meter}
 use Rattle.meter.specs.State.{stream_at}
 use Rattle.lent_meter.specs.Words.{packed_stream}
-use Rattle.tally.specs.Tally.{last_stream, Call, Answer, fresh_tally, tally_at, above_last, tallied}
+use Rattle.tally.specs.Tally.{last_stream, Call, Answer, fresh_tally, tally_at, above_last, answers_to, tallied}
 use Rattle.tally.specs.Run.{FreshReturns, Run}
 use Rattle.tally.specs.LentRun.{Words, FreshGave, LentRun}
 
@@ -68,6 +68,14 @@ abbrev pub ChosenStreams : Type 0
 ChosenStreams =
     (chosen : ℕ → Bool) (cs ds : List Call) (rs ss : List Answer) (m n : Meter) → RanFresh cs rs m → RanFresh ds ss n →
     calls_on chosen cs ≡ calls_on chosen ds → SameOn chosen cs rs m ds ss n
+
+-- the calls that name a chosen stream come to what they come to alone: to the answers that the tally then gives, and to what it then keeps
+pub record Alone (chosen : ℕ → Bool) (cs : List Call) (rs : List Answer) : Type 0 where
+  pub answers : answers_on chosen cs rs ≡ answers_to fresh_tally (calls_on chosen cs)
+  pub tally : (k : ℕ) → chosen k ≡ true → tally_at (tallied fresh_tally cs) k ≡ tally_at (tallied fresh_tally (calls_on chosen cs)) k
+
+abbrev pub AsIfAlone : Type 0
+AsIfAlone = (chosen : ℕ → Bool) (cs : List Call) (rs : List Answer) (m : Meter) → RanFresh cs rs m → Alone chosen cs rs
 
 -- a call that names a stream above 15 belongs to nobody. Each is refused by 13
 abbrev pub NobodysRefused : Type 0

@@ -2,7 +2,10 @@
 //! input, as a program of its own: its arguments, how often each answer came,
 //! and what it prints.
 
-use std::fmt::{Debug, Write as _};
+// Each program that includes this module uses a part of it.
+#![allow(dead_code)]
+
+use std::fmt::Debug;
 use std::io::IsTerminal;
 use std::process::ExitCode;
 use std::time::Instant;
@@ -124,10 +127,14 @@ impl Run<'_> {
         self.due().div_ceil(10)
     }
 
+    /// Prints what is due of each limit.
+    pub fn print_due_of_limits(&self) {
+        println!("due at least, of each limit: {}", self.due_of_limits());
+    }
+
     /// Prints what is due at least.
     pub fn print_due(&self, what: &str) {
         println!("due at least, {what}: {}", self.due());
-        println!("due at least, of each limit: {}", self.due_of_limits());
         if self.due() < DUE {
             let Comparison {
                 counted, default, ..
@@ -201,25 +208,28 @@ pub fn place<T>(answer: &Result<T, u8>) -> usize {
         .map_or(0, |number| usize::from(*number))
 }
 
-/// Where two answers differ, the call and both answers.
+/// Where the answers of the plain version and of the proved library differ, the call and both answers.
 pub fn same<T: PartialEq + Debug>(
     expected: &T,
     proved: &T,
     call: impl Fn() -> String,
 ) -> Result<(), String> {
-    if expected == proved {
+    alike(["plain", "proved"], expected, proved, call)
+}
+
+/// The same of two values with other names.
+pub fn alike<T: PartialEq + Debug>(
+    names: [&str; 2],
+    first: &T,
+    second: &T,
+    call: impl Fn() -> String,
+) -> Result<(), String> {
+    if first == second {
         return Ok(());
     }
     let call = call();
+    let [one, other] = names;
     Err(format!(
-        "difference in {call}\nplain:  {expected:?}\nproved: {proved:?}"
+        "difference in {call}\n{one}: {first:?}\n{other}: {second:?}"
     ))
-}
-
-pub fn hex(bytes: &[u8]) -> String {
-    let mut text = format!("({} bytes)", bytes.len());
-    for byte in bytes {
-        let _ = write!(text, " {byte:02X}");
-    }
-    text
 }

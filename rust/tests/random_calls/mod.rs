@@ -1,7 +1,12 @@
 //! Makes calls of the meter for tests.
 
+// Each program that includes this module uses a part of it.
+#![allow(dead_code)]
+
 use crate::calls::{analysis, call, Call};
-use crate::records::{self, Random};
+use crate::plain;
+use crate::plain::meter::{GREATEST_TOTAL, GREATEST_VOLUME};
+use crate::records::{self, hex, Random};
 
 /// A reading, an analysis or, most often, a metering call on one of the given streams.
 pub fn random_call(random: &mut Random, streams: &[usize]) -> Call {
@@ -20,5 +25,46 @@ fn random_volume(random: &mut Random) -> u64 {
         1 => *random.one_of(&[10_000_001, 1 << 32, u64::MAX]),
         2 | 3 => random.below(100),
         _ => random.below(10_000_001),
+    }
+}
+
+/// Calls on a fresh stream after which one call can fill it: a gas, and volumes of it.
+pub fn filling(random: &mut Random, stream: usize) -> Vec<Call> {
+    let mut calls = vec![analysis(stream, "", &accepted_record(random))];
+    let mut room = GREATEST_TOTAL;
+    while room > GREATEST_VOLUME {
+        let volume = GREATEST_VOLUME - random.below(100_000);
+        calls.push(call(b'm', stream, volume));
+        room -= volume;
+    }
+    calls
+}
+
+/// A record that is accepted.
+fn accepted_record(random: &mut Random) -> Vec<u8> {
+    loop {
+        let record = records::case(random).0;
+        if plain::read(&record).is_ok() {
+            return record;
+        }
+    }
+}
+
+/// Now and then, on a stream that has room for no more than one call can add, has a call fill it or pass the greatest total by one.
+pub fn aim(random: &mut Random, call: &mut Call, room: Option<u64>) {
+    if let Some(room) = room.filter(|room| *room <= GREATEST_VOLUME) {
+        if random.below(4) == 0 {
+            call.volume = room + random.below(2);
+        }
+    }
+}
+
+/// A call in words.
+pub fn shown(call: &Call) -> String {
+    let (k, volume) = (call.stream, call.volume);
+    match call.kind {
+        b'a' => format!("analysis {k}\nrecord: {}", hex(&call.record)),
+        b'm' => format!("metering {k} {volume}"),
+        _ => format!("reading {k}"),
     }
 }

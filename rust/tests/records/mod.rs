@@ -11,6 +11,8 @@ mod random;
 pub use limits::Limits;
 pub use random::Random;
 
+use std::fmt::Write as _;
+
 const LINES: u8 = 55;
 const METHANE: u8 = 1;
 const WATER: u8 = 42;
@@ -527,4 +529,13 @@ fn lengthen(random: &mut Random, draft: &mut Draft, least: usize) {
     random.extend(&mut draft.lines, more);
     let length = draft.fractions.len() + more;
     draft.fractions.resize(length, 1);
+}
+
+/// Bytes in words.
+pub fn hex(bytes: &[u8]) -> String {
+    let mut text = format!("({} bytes)", bytes.len());
+    for byte in bytes {
+        let _ = write!(text, " {byte:02X}");
+    }
+    text
 }
