@@ -16,6 +16,7 @@ use Rattle.records.proofs.OrderLaws.{stops, passes, some_number, gives_refused}
 use Rattle.properties.specs.declared.Properties.{Properties}
 use Rattle.properties.specs.Chain.{six_of}
 use Rattle.properties.specs.Answers.{numbers, quantities}
+use Rattle.meter.specs.declared.Gas.{Gas}
 use Rattle.meter.specs.declared.StreamTotals.{StreamTotals}
 use Rattle.meter.specs.declared.Stream.{Stream}
 use Rattle.meter.specs.State.{SoundTotals, SoundStream}
@@ -36,11 +37,15 @@ module _ (s : Stream) (bs : List ℕ) where
       gives_refused (Err refusal.PairDiffers) refusal.PairDiffers (analysed s bs) s refl
       (passes (record_order bs) fourteen tt clear refl (rw (← combustion, ← metering, ← differs)))
 
+-- a gas is that of a record whose pair and properties it has
+pub gas_is : (bs : List ℕ) (gas : Gas) → gas.pair.combustion ≡ combustion_in bs → gas.pair.metering ≡ metering_in bs →
+    numbers gas.properties ≡ six_of (contents_in bs) → gas ≡ gas_of bs
+gas_is bs gas combustion metering is =
+    λ i. record { pair = record { combustion = combustion i; metering = metering i }; properties = quantities (is i) }
+
 -- a stream with the pair and the properties of an accepted record
 pub sound_with : (bs : List ℕ) → 0 ≡ first_of (record_order bs) → (p : Properties) {c m : ℕ} → c ≡ combustion_in bs → m ≡ metering_in bs →
     numbers p ≡ six_of (contents_in bs) → {t : StreamTotals} → SoundTotals t →
     SoundStream (record { analysis = Some (record { pair = record { combustion = c; metering = m }; properties = p }); totals = t })
-sound_with bs clear p {c} {m} combustion metering is {t} totals =
-    let gas : record { pair = record { combustion = c; metering = m }; properties = p } ≡ gas_of bs =
-    λ i. record { pair = record { combustion = combustion i; metering = metering i }; properties = quantities (is i) } in
-    rw gas (record { analysis = sound_gas bs (sym clear); totals = totals })
+sound_with bs clear p combustion metering is totals =
+    rw (gas_is bs _ combustion metering is) (record { analysis = sound_gas bs (sym clear); totals = totals })

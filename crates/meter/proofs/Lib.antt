@@ -3,6 +3,6 @@ pub mod Registers
 pub mod Streams
 mod Means
 pub mod Kept
-mod Analyses
+pub mod Analyses
 pub mod Outcomes
 mod LimitBeforeSum

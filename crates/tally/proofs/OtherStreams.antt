@@ -1,39 +1,43 @@
--- What a list of calls comes to for chosen streams is what the calls that name them come to alone; and what the tally keeps for a stream is
--- alike to one stream of a meter only.
+-- What a list of calls leaves for chosen streams, and the answers to the calls that name them, are those of these calls alone, on the tally;
+-- and at most one stream is alike to what the tally keeps for one.
 use mathlib.Core.Path.{◌≡◌, refl, sym, ap, subst, ◌∙◌}
-use mathlib.Core.Bool.{Bool, true, false, cond, true≢false}
+use mathlib.Core.Bool.{Bool, true, false, not, cond, true≢false}
 use mathlib.Core.List.{List, [], ◌∷◌, map}
 use mathlib.Core.Option.{Option, none, some}
-use Prim.Native.Nat.{ℕ, zero, suc, ◌≤◌}
+use Prim.Native.Nat.{ℕ, zero, suc, ◌≤◌, ◌<◌}
 use native.Mathlib.Omega.{arith}
-use borrow.Author.Tests.{eq-eqb, le-leb}
+use borrow.Author.Tests.{eq-eqb, le-ltb}
 use lib.ListN.{length, length-set, get_or, set}
 use lib.Seq.{get_or-set_other}
+use denote.Ref.{MutBor}
 use Rattle.std.specs.Prelude.{Option as InForce, Some, None}
 use Rattle.std.proofs.lemmas.List.{ext_get_or}
 use Rattle.records.specs.Order.{refused, first_of, decided, otherwise}
-use Rattle.properties.specs.Chain.{Six, six_of}
-use Rattle.properties.specs.Answers.{numbers, quantities}
+use Rattle.properties.specs.Chain.{six_of}
+use Rattle.properties.specs.Answers.{numbers}
 use Rattle.properties.proofs.Outcomes.{clear_of_accepted}
 use Rattle.meter.specs.declared.Gas.{Gas}
 use Rattle.meter.specs.declared.Register.{Register}
 use Rattle.meter.specs.declared.StreamTotals.{StreamTotals}
 use Rattle.meter.specs.declared.Stream.{Stream}
-use Rattle.meter.specs.declared.Meter.{Meter}
-use Rattle.meter.specs.State.{fresh_stream, stream_at}
+use Rattle.meter.specs.State.{fresh_stream, fresh_meter, stream_at}
 use Rattle.meter.specs.Calls.{gas_of}
 use Rattle.lent_meter.specs.Words.{packed_stream, packed}
+use Rattle.meter.proofs.Analyses.{gas_is}
 use Rattle.lent_meter.proofs.Outcomes.{row_is}
+use Rattle.lent_meter.proofs.Kept.{fresh_is_lent}
 use Rattle.tally.specs.Tally.{last_stream, Ask, analysis, metering, totals, mean, Call, Parts, Totals, totals_are, Answer, StreamTally, fresh_stream_tally, Tally, fresh_tally, tally_at, with_tally, above_last, order_of, left_by, given_by, number_for, answer_to, tally_after, answers_to, tallied}
 use Rattle.tally.specs.Demand.{SameInForce, nothing, known}
 use Rattle.tally.specs.Run.{totals_given}
-use Rattle.tally.specs.LentRun.{Words}
-use Rattle.tally.specs.OtherStreams.{calls_on, answers_on, only, of_the_meter, RanFresh, OtherStreams, ChosenStreams, AsIfAlone, NobodysRefused, NobodysChangeNothing, LentRanFresh, LentOtherStreams, MixedOtherStreams, LentNobodysChangeNothing}
+use Rattle.tally.specs.LentRun.{Words, LentDemand}
+use Rattle.tally.specs.OtherStreams.{calls_on, answers_on, only, of_the_meter, RanFresh, OtherStreams, ChosenStreams, AsIfAlone, NobodysRefused, NobodysChangeNothing, LentRanFresh, LentOtherStreams, MixedOtherStreams, LentNobodysRefused, LentNobodysChangeNothing, EveryListRanFresh}
 use Rattle.tally.proofs.Alike.{Alike, totals_alike}
 use Rattle.tally.proofs.Demand.{from_fresh}
+use Rattle.tally.proofs.Exists.{to_mut, has_fresh, every_list_has_run}
 use Rattle.tally.proofs.LentRuns.{lent_demand3}
+use Rattle.tally.proofs.LentExists.{every_list_has_lent_run}
 
--- two lists that are alike at a place stay so when the same is put at any place of both
+-- two lists of one length that are alike at a place stay so when the same is put at any place of both
 put_both : {A : Type 0} (d : A) (l r : List A) (k j : ℕ) (x : A) → length l ≡ length r → get_or l j d ≡ get_or r j d → get_or (set l k x) j d ≡ get_or (set r k x) j d
 put_both d [] [] k j x h e = e
 put_both d [] (b ∷ r) k j x h e = absurd (omega (arith, h))
@@ -101,31 +105,27 @@ abbrev gas_in_force : Option (List ℕ) → InForce Gas
 gas_in_force none = None
 gas_in_force (some bs) = Some (gas_of bs)
 
-gas_of_parts : (gas : Gas) {c m : ℕ} {p : Six} → gas.pair.combustion ≡ c → gas.pair.metering ≡ m → numbers gas.properties ≡ p →
-    gas ≡ record { pair = record { combustion = c; metering = m }; properties = quantities p }
-gas_of_parts gas ec em ep = λ i. record { pair = record { combustion = ec i; metering = em i }; properties = quantities (ep i) }
+gas_found : {i : InForce Gas} {o : Option (List ℕ)} → SameInForce i o → i ≡ gas_in_force o
+gas_found nothing = refl
+gas_found (known bs gas ec em e) = ap Some (gas_is bs gas ec em (sym (clear_of_accepted six_of bs (numbers gas.properties) e).1))
 
-gas_is : {i : InForce Gas} {o : Option (List ℕ)} → SameInForce i o → i ≡ gas_in_force o
-gas_is nothing = refl
-gas_is (known bs gas ec em e) = ap Some (gas_of_parts gas ec em (sym (clear_of_accepted six_of bs (numbers gas.properties) e).1))
-
--- one stream alone is alike to what the tally keeps
+-- at most one stream is alike to what the tally keeps
 same_given : {t u : Totals} → totals_are t ≡ totals_are u → t ≡ u
 same_given e = cc
 
-abbrev register_with : Parts → Register
-register_with p = record { whole = p.whole; rest = p.rest }
+abbrev register_from : Parts → Register
+register_from p = record { whole = p.whole; rest = p.rest }
 
-abbrev totals_with : Totals → StreamTotals
-totals_with x =
-    record { volume = x.volume; superior = register_with x.superior; inferior = register_with x.inferior; mass = register_with x.mass }
+abbrev totals_from : Totals → StreamTotals
+totals_from x =
+    record { volume = x.volume; superior = register_from x.superior; inferior = register_from x.inferior; mass = register_from x.mass }
 
 same_totals : {t u : StreamTotals} → totals_given t ≡ totals_given u → t ≡ u
-same_totals e = ap totals_with (same_given e)
+same_totals e = ap totals_from (same_given e)
 
 same_stream : {s r : Stream} {l : StreamTally} → Alike s l → Alike r l → s ≡ r
 same_stream {s} {r} {l} a b =
-    let gas = gas_is a.in_force ∙ sym (gas_is b.in_force) in
+    let gas = gas_found a.in_force ∙ sym (gas_found b.in_force) in
     let given = same_totals (totals_alike s l a ∙ sym (totals_alike r l b)) in
     λ i. record { analysis = gas i; totals = given i }
 
@@ -152,7 +152,7 @@ chosen_streams chosen cs ds rs ss m n a b same =
 pub other_streams : OtherStreams
 other_streams k low cs ds rs ss m n a b same =
     let s = chosen_streams (only k) cs ds rs ss m n a b same in
-    record { answers = s.answers; stored = s.stored k low (eq-eqb k k refl) }
+    record { answers = s.answers; stored = s.stored k low (eq-eqb k _ refl) }
 
 -- a stream above 15: 13 is the first condition of every call
 refused_above : (k : ℕ) (ask : Ask) (s : StreamTally) → above_last k ≡ true → {A : Type 0} (g : A) → decided (first_of (order_of k ask s)) g ≡ refused 13
@@ -177,44 +177,53 @@ nobodys_refused cs rs m a = ap (answers_on above_last cs) (from_fresh a.made a.r
 pub nobodys_change_nothing : NobodysChangeNothing
 nobodys_change_nothing cs ds rs ss m n a b same =
     let s = chosen_streams of_the_meter cs ds rs ss m n a b same in
-    let count = (from_fresh a.made a.ran).linked.sound.count in
+    let p = (from_fresh a.made a.ran).linked in
+    let q = (from_fresh b.made b.ran).linked in
+    let stored = λ (k : ℕ) (low : k < 16). s.stored k (omega (arith, low)) (ap not (le-ltb _ k (omega (arith, low)))) in
     let streams : m.streams ≡ n.streams =
-    ext_get_or fresh_stream m.streams n.streams (count ∙ sym (from_fresh b.made b.ran).linked.sound.count)
-    (λ k low. let most : k ≤ last_stream = omega (arith, count) in (s.stored k most (le-leb k last_stream most)).stream) in
-    record { answers = s.answers; meter = λ i. record { streams = streams i } }
+    ext_get_or fresh_stream m.streams n.streams (p.sound.count ∙ sym q.sound.count) (λ k low. (stored k (omega (arith, low, p.sound.count))).stream) in
+    let tallies : (tallied fresh_tally cs).streams ≡ (tallied fresh_tally ds).streams =
+    ext_get_or fresh_stream_tally (tallied fresh_tally cs).streams (tallied fresh_tally ds).streams (p.count ∙ sym q.count)
+    (λ k low. (stored k (omega (arith, low, p.count))).tally) in
+    record { answers = s.answers; meter = λ i. record { streams = streams i }; tally = λ i. record { streams = tallies i } }
 
 -- a list of calls on words is one on the meter that they hold
-record Held (cs : List Call) (rs : List Answer) (w : Words) : Type 0 where
-  pub meter : Meter
-  pub ran : RanFresh cs rs meter
-  pub holds : w ≡ packed meter
-  pub row : (k : ℕ) → k ≤ last_stream → get_or w k [] ≡ packed_stream (stream_at meter k)
+module _ {cs : List Call} {rs : List Answer} {w : Words} (a : LentRanFresh cs rs w) where
+  held : LentDemand a.new.now cs rs w
+  held = lent_demand3 a.lifetimes a.old a.new cs rs w a.filled a.ran
 
-held : {cs : List Call} {rs : List Answer} {w : Words} → LentRanFresh cs rs w → Held cs rs w
-held {cs} {rs} {w} a =
-    let d = lent_demand3 a.lifetimes a.old a.new cs rs w a.filled a.ran in
-    record {
-      meter = d.meter;
-      ran = record { first = d.first; made = d.made; ran = d.ran };
-      holds = d.holds;
-      row = row_is d.meter d.demand.sound d.holds;
-    }
+  on_meter : RanFresh cs rs held.meter
+  on_meter = record { first = held.first; made = held.made; ran = held.ran }
+
+  row_held : (k : ℕ) → k ≤ last_stream → get_or w k [] ≡ packed_stream (stream_at held.meter k)
+  row_held = row_is held.meter held.demand.sound held.holds
 
 pub mixed_other_streams : MixedOtherStreams
 mixed_other_streams k low cs ds rs ss m v a b same =
-    let h = held b in
-    let s = other_streams k low cs ds rs ss m h.meter a h.ran same in
-    record { answers = s.answers; row = ap packed_stream s.stored.stream ∙ sym (h.row k low) }
+    let s = other_streams k low cs ds rs ss m (held b).meter a (on_meter b) same in
+    record { answers = s.answers; row = ap packed_stream s.stored.stream ∙ sym (row_held b k low) }
 
 pub lent_other_streams : LentOtherStreams
 lent_other_streams k low cs ds rs ss w v a b same =
-    let h = held a in
-    let s = mixed_other_streams k low cs ds rs ss h.meter v h.ran b same in
-    record { answers = s.answers; row = h.row k low ∙ s.row }
+    let s = mixed_other_streams k low cs ds rs ss (held a).meter v (on_meter a) b same in
+    record { answers = s.answers; row = row_held a k low ∙ s.row }
+
+pub lent_nobodys_refused : LentNobodysRefused
+lent_nobodys_refused cs rs w a = nobodys_refused cs rs (held a).meter (on_meter a)
 
 pub lent_nobodys_change_nothing : LentNobodysChangeNothing
 lent_nobodys_change_nothing cs ds rs ss w v a b same =
-    let g = held a in
-    let h = held b in
-    let s = nobodys_change_nothing cs ds rs ss g.meter h.meter g.ran h.ran same in
-    record { answers = s.answers; words = g.holds ∙ ap packed s.meter ∙ sym h.holds }
+    let s = nobodys_change_nothing cs ds rs ss (held a).meter (held b).meter (on_meter a) (on_meter b) same in
+    record { answers = s.answers; words = (held a).holds ∙ ap packed s.meter ∙ sym (held b).holds }
+
+pub every_list_ran_fresh : EveryListRanFresh
+every_list_ran_fresh =
+    record {
+      on_meter = λ cs.
+          let r = every_list_has_run has_fresh.meter cs in
+          record { answers = r.answers; meter = r.meter; ran = record { first = has_fresh.meter; made = has_fresh.returns; ran = r.run } };
+      on_words = λ cs.
+          let w : MutBor Words = to_mut (packed fresh_meter) in
+          let r = every_list_has_lent_run w.now cs fresh_is_lent in
+          record { answers = r.answers; words = r.words; ran = record { lifetimes = ([], tt); old = w; new = w; filled = λ p. refl; ran = r.run } };
+    }

@@ -1,7 +1,7 @@
--- The cases K1 to K10 of document 01, a computed one of the inferior energy and the mass, and the records of `limit_cases` as analyses, as
--- one list, and one test over the definitions that computes to true over the whole list. Values per kilogram stand in
--- crates/properties/specs/Cases.antt.
-use Rattle.std.specs.Prelude.{◌≡◌, Bool, true, ◌&&◌, List, [], ◌∷◌, ℕ, ◌*◌, ◌-◌, eqb, leb, ℤ, pos, nat_abs, ◌-ℤ◌}
+-- The cases K1 to K10 of document 01, K9 among calls on other streams, a computed one of the inferior energy and the mass, and the records
+-- of `limit_cases` as analyses, as one list, and one test over the definitions that computes to true over the whole list. Values per kilogram
+-- stand in crates/properties/specs/Cases.antt.
+use Rattle.std.specs.Prelude.{◌≡◌, Bool, true, ◌&&◌, List, [], ◌∷◌, map, length, ℕ, ◌*◌, ◌-◌, eqb, leb, ℤ, pos, nat_abs, ◌-ℤ◌}
 use Rattle.components.specs.Table.{entry_of}
 use Rattle.components.specs.Table as table
 use Rattle.components.specs.Rule.{atoms_of, water_heat, allowance, excess}
@@ -12,7 +12,8 @@ use Rattle.records.specs.Cases.{same_list, same_outcome, annex_d, k2}
 use Rattle.records.specs.Cases as on-record
 use Rattle.properties.specs.Chain.{Six, properties_of}
 use Rattle.properties.specs.Cases.{same_six, printed1, printed2}
-use Rattle.tally.specs.Tally.{superior, inferior, analysis, metering, totals, mean, Call, on, Totals, Given, done, totals_are, mean_is, Answer, Tally, fresh_tally, answer_to, tally_after}
+use Rattle.tally.specs.Tally.{superior, inferior, analysis, metering, totals, mean, Call, on, Totals, Given, done, totals_are, mean_is, Answer, Tally, fresh_tally, above_last, answer_to, tally_after}
+use Rattle.tally.specs.OtherStreams.{calls_on, of_the_meter, calls_of, answers_of}
 
 -- figures of the rule of the component table: a line, the place of a temperature among 25, 20, 15 and 0 °C, the line's h superior and
 -- inferior, twice their difference, its hydrogen atoms a, the superior h of water w, and a × w
@@ -67,18 +68,38 @@ after2000 =
       mass = record { whole = 1; rest = 35970764000 };
     }
 
+-- K9, and the same among calls on the stream 1, which takes the gas of annex D, and on the stream 16
+abbrev pub k9 : List (Call × Answer)
+k9 =
+    (on 0 (metering 1000), refused 16)
+    ∷ (on 0 (analysis k2), accepted done)
+    ∷ (on 0 (metering 1000), accepted done)
+    ∷ (on 0 totals, accepted (totals_are after1000))
+    ∷ (on 0 (mean superior), accepted (mean_is 37781616))
+    ∷ []
+
+abbrev pub shared : List (Call × Answer)
+shared =
+    (on 1 (analysis (bytes_of (annex_d 15 15))), accepted done)
+    ∷ (on 0 (metering 1000), refused 16)
+    ∷ (on 1 (metering 7), accepted done)
+    ∷ (on 0 (analysis k2), accepted done)
+    ∷ (on 16 (analysis k2), refused 13)
+    ∷ (on 1 (analysis k2), accepted done)
+    ∷ (on 0 (metering 1000), accepted done)
+    ∷ (on 0 totals, accepted (totals_are after1000))
+    ∷ (on 16 totals, refused 13)
+    ∷ (on 1 (mean superior), accepted (mean_is 38959473))
+    ∷ (on 0 (mean superior), accepted (mean_is 37781616))
+    ∷ []
+
 abbrev pub cases : List Case
 cases =
     six (bytes_of (annex_d 15 15)) printed1  -- K1
     ∷ two k2 printed2  -- K2
     ∷ each_number on-record.cases  -- K1 to K8
-    (calls
-    ((on 0 (metering 1000), refused 16)
-    ∷ (on 0 (analysis k2), accepted done)
-    ∷ (on 0 (metering 1000), accepted done)
-    ∷ (on 0 totals, accepted (totals_are after1000))
-    ∷ (on 0 (mean superior), accepted (mean_is 37781616))
-    ∷ [])  -- K9
+    (calls k9  -- K9
+    ∷ calls shared  -- the same among calls on other streams
     ∷ calls
     ((on 15 (analysis k2), accepted done)
     ∷ (on 15 (mean inferior), refused 18)
@@ -128,3 +149,16 @@ holds (rule f) = rule_holds f
 
 abbrev pub CasesHold : Type 0
 CasesHold = all holds cases ≡ true
+
+-- of the calls among others, those that name the stream 0 are those of K9, with its answers; two name a stream above 15, and nine do not
+abbrev pub calls_in : List (Call × Answer) → List Call
+calls_in = map (λ (p : Call × Answer). p.0)
+
+abbrev pub answers_in : List (Call × Answer) → List Answer
+answers_in = map (λ (p : Call × Answer). p.1)
+
+pub record SharedHolds : Type 0 where
+  pub calls : calls_of 0 (calls_in shared) ≡ calls_in k9
+  pub answers : answers_of 0 (calls_in shared) (answers_in shared) ≡ answers_in k9
+  pub nobodys : calls_on above_last (calls_in shared) ≡ on 16 (analysis k2) ∷ on 16 totals ∷ []
+  pub others : length (calls_on of_the_meter (calls_in shared)) ≡ 9

@@ -1,7 +1,7 @@
 -- What calls on other streams leave alone: two lists of calls, each from a fresh meter, that are alike in the calls that name a stream. The
--- answers to these calls are the same, and so is all that is stored for the stream. On other streams each list may have any calls, as many
--- as it likes and wherever it likes, refused ones and ones on streams above 15 among them.
-use Rattle.std.specs.Prelude.{◌≡◌, Bool, true, cond, List, [], ◌∷◌, map, ℕ, ◌≤◌, eqb, leb, get_or}
+-- answers to these calls are the same, and so is all that is stored for the stream. On other streams each list may have any number
+-- of calls at any places, refused ones and ones on streams above 15 among them.
+use Rattle.std.specs.Prelude.{◌≡◌, Bool, true, not, cond, List, [], ◌∷◌, map, ℕ, ◌≤◌, eqb, get_or}
 use contract.Lifetimes.{Lfts}
 use Rattle.std.specs.Borrow.{MutBor}
 use Rattle.records.specs.Order.{refused}
@@ -17,7 +17,7 @@ abbrev pub calls_on : (ℕ → Bool) → List Call → List Call
 calls_on chosen [] = []
 calls_on chosen (c ∷ cs) = cond (chosen c.stream) (c ∷ calls_on chosen cs) (calls_on chosen cs)
 
--- of the answers to a list of calls, those to these
+-- the answers to these calls, of the answers to the list
 abbrev pub answers_on : (ℕ → Bool) → List Call → List Answer → List Answer
 answers_on chosen [] rs = []
 answers_on chosen (c ∷ cs) [] = []
@@ -28,7 +28,7 @@ abbrev pub only : ℕ → ℕ → Bool
 only k j = eqb j k
 
 abbrev pub of_the_meter : ℕ → Bool
-of_the_meter k = leb k last_stream
+of_the_meter k = not (above_last k)
 
 -- the calls that name the stream k, and the answers to them
 abbrev pub calls_of : ℕ → List Call → List Call
@@ -59,7 +59,7 @@ OtherStreams =
     (k : ℕ) → k ≤ last_stream → (cs ds : List Call) (rs ss : List Answer) (m n : Meter) → RanFresh cs rs m → RanFresh ds ss n →
     calls_of k cs ≡ calls_of k ds → SameFor k cs rs m ds ss n
 
--- the same of any choice of streams, for lists that are alike in the calls that name one of them
+-- the same of any choice of streams, for lists that are alike in the calls that name any of them
 pub record SameOn (chosen : ℕ → Bool) (cs : List Call) (rs : List Answer) (m : Meter) (ds : List Call) (ss : List Answer) (n : Meter) : Type 0 where
   pub answers : answers_on chosen cs rs ≡ answers_on chosen ds ss
   pub stored : (k : ℕ) → k ≤ last_stream → chosen k ≡ true → SameStored k cs m ds n
@@ -69,7 +69,8 @@ ChosenStreams =
     (chosen : ℕ → Bool) (cs ds : List Call) (rs ss : List Answer) (m n : Meter) → RanFresh cs rs m → RanFresh ds ss n →
     calls_on chosen cs ≡ calls_on chosen ds → SameOn chosen cs rs m ds ss n
 
--- the calls that name a chosen stream come to what they come to alone: to the answers that the tally then gives, and to what it then keeps
+-- it is as if the calls that name a chosen stream were the only ones: the tally gives these answers to them alone, and keeps for these streams
+-- what it keeps after them alone
 pub record Alone (chosen : ℕ → Bool) (cs : List Call) (rs : List Answer) : Type 0 where
   pub answers : answers_on chosen cs rs ≡ answers_to fresh_tally (calls_on chosen cs)
   pub tally : (k : ℕ) → chosen k ≡ true → tally_at (tallied fresh_tally cs) k ≡ tally_at (tallied fresh_tally (calls_on chosen cs)) k
@@ -86,6 +87,7 @@ NobodysRefused =
 pub record SameWithout (cs : List Call) (rs : List Answer) (m : Meter) (ds : List Call) (ss : List Answer) (n : Meter) : Type 0 where
   pub answers : answers_on of_the_meter cs rs ≡ answers_on of_the_meter ds ss
   pub meter : m ≡ n
+  pub tally : tallied fresh_tally cs ≡ tallied fresh_tally ds
 
 abbrev pub NobodysChangeNothing : Type 0
 NobodysChangeNothing =
@@ -121,6 +123,10 @@ MixedOtherStreams =
     calls_of k cs ≡ calls_of k ds → MixedSameFor k cs rs m ds ss v
 
 -- calls that name a stream above 15, on words
+abbrev pub LentNobodysRefused : Type 0
+LentNobodysRefused =
+    (cs : List Call) (rs : List Answer) (w : Words) → LentRanFresh cs rs w → answers_on above_last cs rs ≡ map (λ (c : Call). refused 13) (calls_on above_last cs)
+
 pub record LentSameWithout (cs : List Call) (rs : List Answer) (w : Words) (ds : List Call) (ss : List Answer) (v : Words) : Type 0 where
   pub answers : answers_on of_the_meter cs rs ≡ answers_on of_the_meter ds ss
   pub words : w ≡ v
@@ -129,3 +135,18 @@ abbrev pub LentNobodysChangeNothing : Type 0
 LentNobodysChangeNothing =
     (cs ds : List Call) (rs ss : List Answer) (w v : Words) → LentRanFresh cs rs w → LentRanFresh ds ss v → calls_on of_the_meter cs ≡ calls_on of_the_meter ds →
     LentSameWithout cs rs w ds ss v
+
+-- none of this is empty: every list of calls has such a run, of the one meter and of the other
+pub record HasRanFresh (cs : List Call) : Type 0 where
+  pub answers : List Answer
+  pub meter : Meter
+  pub ran : RanFresh cs answers meter
+
+pub record HasLentRanFresh (cs : List Call) : Type 0 where
+  pub answers : List Answer
+  pub words : Words
+  pub ran : LentRanFresh cs answers words
+
+pub record EveryListRanFresh : Type 0 where
+  pub on_meter : (cs : List Call) → HasRanFresh cs
+  pub on_words : (cs : List Call) → HasLentRanFresh cs
