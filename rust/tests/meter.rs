@@ -10,12 +10,14 @@
 mod calls;
 mod cases;
 mod comparison;
+mod counted_calls;
 mod plain;
 mod random_calls;
 mod records;
 
 use calls::{call, Answer, Call, TakesCalls};
 use comparison::{same, Answers, Comparison, Run};
+use counted_calls::{count, none_counted};
 use loonstool::STREAMS;
 use plain::meter::GREATEST_TOTAL;
 use plain::words::{hold_a_meter, row_of, words_of};
@@ -41,17 +43,6 @@ const SAMPLED: u64 = 30;
 
 /// After one call of so many the words are saved and restored.
 const RESTORED: u64 = 64;
-
-/// The numbers of each order, that of both means the same, and the places of the calls in the counts.
-const OF_ANALYSIS: [u8; 14] = [13, 1, 2, 3, 4, 5, 6, 7, 8, 10, 11, 12, 9, 14];
-const OF_METERING: [u8; 4] = [13, 15, 16, 17];
-const OF_TOTALS: [u8; 1] = [13];
-const OF_MEAN: [u8; 2] = [13, 18];
-const ANALYSIS: usize = 0;
-const METERING: usize = 1;
-const TOTALS: usize = 2;
-const MEAN: usize = 3;
-const MEAN_INFERIOR: usize = 4;
 
 /// The registers whose rest is carried to the whole.
 const REGISTERS: [&str; 3] = ["superior energy", "inferior energy", "mass"];
@@ -131,13 +122,7 @@ struct Counts {
 impl Counts {
     fn none() -> Self {
         Self {
-            answers: Answers::none([
-                ("analysis", &OF_ANALYSIS),
-                ("metering", &OF_METERING),
-                ("totals", &OF_TOTALS),
-                ("mean", &OF_MEAN),
-                ("mean inferior", &OF_MEAN),
-            ]),
+            answers: none_counted(true),
             lists: 0,
             filled: 0,
             sampled: 0,
@@ -159,20 +144,12 @@ impl Counts {
 
     /// Books a call's answer, and whether a metering call went to the limit of a stream with the given room.
     fn book(&mut self, call: &Call, room: Option<u64>, answer: &Answer) {
-        match answer {
-            Answer::Read(reading) => {
-                self.answers.book(TOTALS, &reading.totals);
-                self.answers.book(MEAN, &reading.mean);
-                self.answers.book(MEAN_INFERIOR, &reading.mean_inferior);
-            }
-            Answer::Changed(given) if call.kind == b'm' => {
-                self.answers.book(METERING, given);
-                let meets = call.volume > 0 && room == Some(call.volume);
-                self.met += u64::from(meets && given.is_ok());
-                let passes = room.is_some_and(|room| call.volume == room + 1);
-                self.passed += u64::from(passes && *given == Err(17));
-            }
-            Answer::Changed(given) => self.answers.book(ANALYSIS, given),
+        count(&mut self.answers, call, answer);
+        if call.kind == b'm' {
+            let meets = call.volume > 0 && room == Some(call.volume);
+            self.met += u64::from(meets && *answer == Answer::Changed(Ok(())));
+            let passes = room.is_some_and(|room| call.volume == room + 1);
+            self.passed += u64::from(passes && *answer == Answer::Changed(Err(17)));
         }
     }
 

@@ -1,23 +1,25 @@
-//! Makes two lists of calls, each on a fresh meter, that are alike in the calls that name a stream and free in the rest: every answer to
-//! these calls is the same, and so are the words of the stream's row.
+//! Makes two lists of calls, each on a fresh meter, that are alike in the calls that name a stream and free in the rest. After each of
+//! these calls its answer and the words of the stream's row are, in both lists, those of these calls made alone on a third meter; so they are
+//! the same in both.
 //!
 //! `cargo test --offline --release --test other_streams -- --pairs N --seed S`
 //!
-//! S is a whole number, or `random` for one from the clock. The seed is printed, with the command that repeats the run. The calls on the
-//! stream are made alone too, on a meter of their own. Calls on streams above 15 stand in both lists: each is refused by 13 and leaves
-//! every word.
+//! S is a whole number, or `random` for one from the clock. The seed is printed, with the command that repeats the run. A call on another
+//! stream leaves the stream's row; one on a stream above 15 is refused by 13 and leaves every word.
 
 mod calls;
 mod cases;
 mod comparison;
+mod counted_calls;
 mod plain;
 mod random_calls;
 mod records;
 
 use calls::{call, Answer, Call, Reading, TakesCalls};
 use comparison::{alike, Answers, Comparison, Run};
+use counted_calls::{count, none_counted};
 use loonstool::{Meter, STREAMS};
-use plain::meter::{GREATEST_TOTAL, GREATEST_VOLUME};
+use plain::meter::GREATEST_TOTAL;
 use random_calls::{aim, filling, random_call, shown};
 use records::Random;
 use std::process::ExitCode;
@@ -39,16 +41,6 @@ const RUNS_WHILE_FILLING: u64 = 1_000;
 
 /// In one pair of so many, calls fill the stream; in another, the first list begins with calls that fill another stream.
 const FILLED: u64 = 100;
-
-/// The numbers of each order but 13, that of both means the same, and the places of the calls in the counts.
-const OF_ANALYSIS: [u8; 13] = [1, 2, 3, 4, 5, 6, 7, 8, 10, 11, 12, 9, 14];
-const OF_METERING: [u8; 3] = [15, 16, 17];
-const OF_MEAN: [u8; 1] = [18];
-const ANALYSIS: usize = 0;
-const METERING: usize = 1;
-const TOTALS: usize = 2;
-const MEAN: usize = 3;
-const MEAN_INFERIOR: usize = 4;
 
 /// What is compared, in words.
 const ALONE_AND_LISTED: [&str; 2] = ["alone", "in the list"];
@@ -85,16 +77,19 @@ fn compare_pair(random: &mut Random, counts: &mut Counts) -> Result<(), String> 
                 pair.take(&call, RUNS_WHILE_FILLING, random, counts)?;
             }
         }
-        1 => pair.lists[0].fill(random, counts)?,
+        1 => pair.lists[0].fill(random)?,
         _ => {}
     }
     for _ in 0..1 + random.below(LENGTH) {
         let mut call = random_call(random, &[k]);
-        aim(random, &mut call, pair.room(k));
+        aim(random, &mut call, room(&pair.alone, k));
         pair.take(&call, RUNS, random, counts)?;
     }
     let last = random_call(random, &[k]);
-    pair.take(&last, 1, random, counts)
+    pair.take(&last, 1, random, counts)?;
+    let [first, second] = &pair.lists;
+    counts.apart += u64::from(first.meter != second.meter);
+    Ok(())
 }
 
 /// Two lists that are alike in the calls on a stream, and these calls alone.
@@ -104,12 +99,6 @@ struct Pair {
 }
 
 impl Pair {
-    /// What the stream takes until its volume total is the greatest, dm³.
-    fn room(&self, k: usize) -> Option<u64> {
-        let totals = self.alone.totals(k).ok();
-        totals.map(|totals| GREATEST_TOTAL - totals.volume)
-    }
-
     /// A call on the stream, in each list after calls on other streams, one time of so many.
     fn take(
         &mut self,
@@ -120,7 +109,7 @@ impl Pair {
     ) -> Result<(), String> {
         let k = call.stream;
         let expected = self.alone.answer(call);
-        counts.book(call, &expected);
+        count(&mut counts.answers, call, &expected);
         for list in &mut self.lists {
             if random.below(seldom) == 0 {
                 list.run(random, call, counts)?;
@@ -134,10 +123,14 @@ impl Pair {
                 what,
             )?;
         }
-        let [first, second] = &self.lists;
-        counts.apart += u64::from(first.meter != second.meter);
         Ok(())
     }
+}
+
+/// What a stream takes until its volume total is the greatest, dm³.
+fn room(meter: &Meter, stream: usize) -> Option<u64> {
+    let totals = meter.totals(stream).ok();
+    totals.map(|totals| GREATEST_TOTAL - totals.volume)
 }
 
 /// One of the lists.
@@ -149,7 +142,7 @@ struct List {
 }
 
 impl List {
-    /// Its other calls name four streams of the meter, the next one among them, and four above 15; some of these are k but for a bit.
+    /// Its other calls name at most four streams of the meter, the next one among them, and four above 15; some of these are k but for a bit.
     fn of(random: &mut Random, k: usize) -> Self {
         let other = |random: &mut Random| (k + 1 + random.index(STREAMS - 1)) % STREAMS;
         let above = |random: &mut Random| k + (STREAMS << random.below(60));
@@ -169,11 +162,18 @@ impl List {
         }
     }
 
-    /// Calls that fill another stream.
-    fn fill(&mut self, random: &mut Random, counts: &mut Counts) -> Result<(), String> {
-        let mut calls = filling(random, self.others[0]);
-        calls.extend([(); 2].map(|()| call(b'm', self.others[0], GREATEST_VOLUME)));
-        calls.iter().try_for_each(|call| self.other(call, counts))
+    /// Calls that fill another stream, and one that finds it full.
+    fn fill(&mut self, random: &mut Random) -> Result<(), String> {
+        let stream = self.others[0];
+        let filled = filling(random, stream);
+        filled
+            .iter()
+            .try_for_each(|call| self.other(call).map(drop))?;
+        let rest = room(&self.meter, stream).unwrap_or_default();
+        self.other(&call(b'm', stream, rest))?;
+        let what = || format!("stream {stream} after {rest} dm3");
+        alike(["due", "left"], &Some(0), &room(&self.meter, stream), what)?;
+        self.other(&call(b'm', stream, 1)).map(drop)
     }
 
     /// Calls on other streams: random ones, and the stream's own made to another.
@@ -187,24 +187,23 @@ impl List {
                     ..own.clone()
                 };
             }
-            self.other(&call, counts)?;
+            counts.changed += u64::from(self.other(&call)?);
+            counts.above += u64::from(call.stream >= STREAMS);
         }
         Ok(())
     }
 
-    /// A call on another stream leaves the stream's words, one above 15 every word.
-    fn other(&mut self, call: &Call, counts: &mut Counts) -> Result<(), String> {
+    /// A call on another stream leaves the stream's words, one above 15 every word. Tells whether it changed any.
+    fn other(&mut self, call: &Call) -> Result<bool, String> {
         let before = *self.meter.words();
         let answer = self.meter.answer(call);
         let (after, what) = (self.meter.words(), || shown(call));
-        counts.changed += u64::from(before != *after);
         alike(BEFORE_AND_AFTER, &before[self.k], &after[self.k], what)?;
         if call.stream >= STREAMS {
-            counts.above += 1;
             alike(["due", "given"], &refused_by_13(call), &answer, what)?;
             alike(BEFORE_AND_AFTER, &before, after, what)?;
         }
-        Ok(())
+        Ok(before != *after)
     }
 }
 
@@ -224,11 +223,11 @@ struct Counts {
     pairs: u64,
     /// What the calls on the stream gave.
     answers: Answers<5>,
-    /// Calls on the stream after which the two lists had left different meters.
+    /// Pairs that left different meters.
     apart: u64,
-    /// Calls that changed another stream.
+    /// Calls among those on the stream that changed another stream.
     changed: u64,
-    /// Calls that named a stream above 15.
+    /// Calls among them that named a stream above 15.
     above: u64,
 }
 
@@ -236,28 +235,10 @@ impl Counts {
     fn none() -> Self {
         Self {
             pairs: 0,
-            answers: Answers::none([
-                ("analysis", &OF_ANALYSIS),
-                ("metering", &OF_METERING),
-                ("totals", &[]),
-                ("mean", &OF_MEAN),
-                ("mean inferior", &OF_MEAN),
-            ]),
+            answers: none_counted(false),
             apart: 0,
             changed: 0,
             above: 0,
-        }
-    }
-
-    fn book(&mut self, call: &Call, answer: &Answer) {
-        match answer {
-            Answer::Read(reading) => {
-                self.answers.book(TOTALS, &reading.totals);
-                self.answers.book(MEAN, &reading.mean);
-                self.answers.book(MEAN_INFERIOR, &reading.mean_inferior);
-            }
-            Answer::Changed(given) if call.kind == b'm' => self.answers.book(METERING, given),
-            Answer::Changed(given) => self.answers.book(ANALYSIS, given),
         }
     }
 
@@ -270,14 +251,14 @@ impl Counts {
             ..
         } = self;
         self.answers.print();
-        println!("{pairs} pairs of lists; meters that differ in other streams {apart} times; other streams changed {changed} times; {above} calls above 15");
+        println!("{pairs} pairs of lists, {apart} left different meters; other streams changed {changed} times; {above} calls above 15");
     }
 
     /// What occurs less often than due, and what a call cannot give.
     fn failures(&self, run: &Run) -> Vec<String> {
         let mut failures = self.answers.failures(run.due());
         for (what, count) in [
-            ("meters that differ in other streams", self.apart),
+            ("meters that differ", self.apart),
             ("another stream changed", self.changed),
             ("a call above 15", self.above),
         ] {

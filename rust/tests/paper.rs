@@ -6,7 +6,7 @@ mod calls;
 mod cases;
 mod plain;
 
-use calls::{analysis, call, Answer, Reading, TakesCalls};
+use calls::{analysis, call, Answer, Call, Reading, TakesCalls};
 use cases::{methane_and, record, HALF_GAS, K1, K1_PROPERTIES, K2};
 use loonstool::{Analysis, PerKilogram, Properties, Refusal};
 use plain::conditions::Conditions;
@@ -150,19 +150,35 @@ fn fresh_meters() -> [Box<dyn TakesCalls>; 3] {
     ]
 }
 
-/// What each of `fresh_meters` reads after the calls of K9.
-fn k9() -> [Reading; 3] {
-    fresh_meters().map(|mut meter| {
-        let metering = call(b'm', 0, 1_000);
-        assert_eq!(meter.answer(&metering), Answer::Changed(Err(16)));
-        for accepted in [analysis(0, "", &K2), metering] {
-            assert_eq!(meter.answer(&accepted), Answer::Changed(Ok(())));
-        }
-        match meter.answer(&call(b'r', 0, 0)) {
-            Answer::Read(reading) => reading,
-            other => panic!("a reading answers {other:?}"),
-        }
-    })
+/// What each of `fresh_meters` reads after the calls of K9 alone, and with calls on other streams before each of them.
+fn k9() -> Vec<Reading> {
+    let k1 = record(15, 15, &K1);
+    let others = [
+        analysis(1, "", &k1),
+        call(b'm', 1, 7),
+        analysis(16, "", &K2),
+        call(b'r', 16, 0),
+    ];
+    [&[][..], &others]
+        .into_iter()
+        .flat_map(|others| fresh_meters().map(|meter| k9_among(others, meter)))
+        .collect()
+}
+
+fn k9_among(others: &[Call], mut meter: Box<dyn TakesCalls>) -> Reading {
+    let mut answer = |call: &Call| {
+        others.iter().for_each(|other| _ = meter.answer(other));
+        meter.answer(call)
+    };
+    let metering = call(b'm', 0, 1_000);
+    assert_eq!(answer(&metering), Answer::Changed(Err(16)));
+    for accepted in [analysis(0, "", &K2), metering] {
+        assert_eq!(answer(&accepted), Answer::Changed(Ok(())));
+    }
+    match answer(&call(b'r', 0, 0)) {
+        Answer::Read(reading) => reading,
+        other => panic!("a reading answers {other:?}"),
+    }
 }
 
 #[test]

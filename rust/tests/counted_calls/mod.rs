@@ -1,0 +1,40 @@
+//! How often each call of the meter gave each answer.
+
+use crate::calls::{Answer, Call};
+use crate::comparison::Answers;
+
+/// The numbers of each order, that of both means the same, with 13 first; and the places of the calls in the counts.
+const OF_ANALYSIS: &[u8] = &[13, 1, 2, 3, 4, 5, 6, 7, 8, 10, 11, 12, 9, 14];
+const OF_METERING: &[u8] = &[13, 15, 16, 17];
+const OF_TOTALS: &[u8] = &[13];
+const OF_MEAN: &[u8] = &[13, 18];
+const ANALYSIS: usize = 0;
+const METERING: usize = 1;
+const TOTALS: usize = 2;
+const MEAN: usize = 3;
+const MEAN_INFERIOR: usize = 4;
+
+/// None yet, of calls that may name a stream above 15 or of calls that do not.
+pub fn none_counted(above_15: bool) -> Answers<5> {
+    let numbers = |order: &'static [u8]| if above_15 { order } else { &order[1..] };
+    Answers::none([
+        ("analysis", numbers(OF_ANALYSIS)),
+        ("metering", numbers(OF_METERING)),
+        ("totals", numbers(OF_TOTALS)),
+        ("mean", numbers(OF_MEAN)),
+        ("mean inferior", numbers(OF_MEAN)),
+    ])
+}
+
+/// One more answer of a call; that of a reading is one of totals and one of each mean.
+pub fn count(answers: &mut Answers<5>, call: &Call, answer: &Answer) {
+    match answer {
+        Answer::Read(reading) => {
+            answers.book(TOTALS, &reading.totals);
+            answers.book(MEAN, &reading.mean);
+            answers.book(MEAN_INFERIOR, &reading.mean_inferior);
+        }
+        Answer::Changed(given) if call.kind == b'm' => answers.book(METERING, given),
+        Answer::Changed(given) => answers.book(ANALYSIS, given),
+    }
+}
