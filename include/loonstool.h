@@ -28,8 +28,8 @@
  *     loonstool_meter_totals stays within the memory that is lent, and promises no more; loonstool_meter_analysis leaves every other
  *     stream, and on a refusal all;
  *   - one call at a time on a meter, but for those that only read it. Several meters may run at once.
- * What a stream answers and holds depends on the calls that named it, and on their order, and on no other call. A call that names a stream
- * above 15 changes nothing.
+ * From loonstool_meter_fresh on, what a stream answers and holds depends on the calls that named it, on what they asked and on their order,
+ * and on no other call.
  *
  * Words that were restored go through loonstool_meter_check. It refuses a property above its ceiling or below its floor, which no accepted
  * record's is, an Hi above Hs, a rho that differs by more than 5 units from d times the density of air, a Wobbe index that is not that of

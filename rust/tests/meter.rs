@@ -22,7 +22,7 @@ use loonstool::STREAMS;
 use plain::meter::GREATEST_TOTAL;
 use plain::words::{hold_a_meter, row_of, words_of};
 use plain::{Meter, Tally};
-use random_calls::{aim, filling, random_call, shown};
+use random_calls::{aim, filling, random_call, room, shown};
 use records::Random;
 use std::process::ExitCode;
 
@@ -212,8 +212,7 @@ impl Meters {
 
     /// What a stream takes until its volume total is the greatest, dm³.
     fn room(&self, stream: usize) -> Option<u64> {
-        let totals = self.plain.totals(stream).ok();
-        totals.map(|totals| GREATEST_TOTAL - totals.volume)
+        room(self.plain.totals(stream))
     }
 
     /// The rests of a stream.
@@ -226,7 +225,7 @@ impl Meters {
     fn fill(&mut self, random: &mut Random, k: usize, counts: &mut Counts) -> Result<(), String> {
         for call in filling(random, k) {
             self.compare(&call, counts)?;
-            counts.filling += 1;
+            counts.filling += u64::from(call.kind == b'm');
         }
         Ok(())
     }

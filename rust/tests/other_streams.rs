@@ -19,8 +19,7 @@ use calls::{call, Answer, Call, Reading, TakesCalls};
 use comparison::{alike, Answers, Comparison, Run};
 use counted_calls::{count, none_counted};
 use loonstool::{Meter, STREAMS};
-use plain::meter::GREATEST_TOTAL;
-use random_calls::{aim, filling, random_call, shown};
+use random_calls::{aim, filling, random_call, room, shown};
 use records::Random;
 use std::process::ExitCode;
 
@@ -45,6 +44,7 @@ const FILLED: u64 = 100;
 /// What is compared, in words.
 const ALONE_AND_LISTED: [&str; 2] = ["alone", "in the list"];
 const BEFORE_AND_AFTER: [&str; 2] = ["before", "after"];
+const DUE_AND_GIVEN: [&str; 2] = ["due", "given"];
 
 fn main() -> ExitCode {
     PAIRS.main(compare_all)
@@ -82,7 +82,7 @@ fn compare_pair(random: &mut Random, counts: &mut Counts) -> Result<(), String> 
     }
     for _ in 0..1 + random.below(LENGTH) {
         let mut call = random_call(random, &[k]);
-        aim(random, &mut call, room(&pair.alone, k));
+        aim(random, &mut call, room(pair.alone.totals(k)));
         pair.take(&call, RUNS, random, counts)?;
     }
     let last = random_call(random, &[k]);
@@ -127,12 +127,6 @@ impl Pair {
     }
 }
 
-/// What a stream takes until its volume total is the greatest, dm³.
-fn room(meter: &Meter, stream: usize) -> Option<u64> {
-    let totals = meter.totals(stream).ok();
-    totals.map(|totals| GREATEST_TOTAL - totals.volume)
-}
-
 /// One of the lists.
 struct List {
     k: usize,
@@ -165,45 +159,44 @@ impl List {
     /// Calls that fill another stream, and one that finds it full.
     fn fill(&mut self, random: &mut Random) -> Result<(), String> {
         let stream = self.others[0];
-        let filled = filling(random, stream);
-        filled
-            .iter()
-            .try_for_each(|call| self.other(call).map(drop))?;
-        let rest = room(&self.meter, stream).unwrap_or_default();
+        for call in filling(random, stream) {
+            self.other(&call)?;
+        }
+        let rest = room(self.meter.totals(stream)).unwrap_or_default();
         self.other(&call(b'm', stream, rest))?;
-        let what = || format!("stream {stream} after {rest} dm3");
-        alike(["due", "left"], &Some(0), &room(&self.meter, stream), what)?;
-        self.other(&call(b'm', stream, 1)).map(drop)
+        let (full, _) = self.other(&call(b'm', stream, 1))?;
+        let what = || format!("metering {stream} 1 on a full stream");
+        alike(DUE_AND_GIVEN, &Answer::Changed(Err(17)), &full, what)
     }
 
     /// Calls on other streams: random ones, and the stream's own made to another.
     fn run(&mut self, random: &mut Random, own: &Call, counts: &mut Counts) -> Result<(), String> {
         for _ in 0..1 + random.below(RUN) {
-            let mut call = random_call(random, &self.others);
-            if random.below(2) == 0 {
-                let stream = call.stream;
-                call = Call {
-                    stream,
+            let call = match random.below(2) {
+                0 => random_call(random, &self.others),
+                _ => Call {
+                    stream: *random.one_of(&self.others),
                     ..own.clone()
-                };
-            }
-            counts.changed += u64::from(self.other(&call)?);
+                },
+            };
+            let (_, changed) = self.other(&call)?;
+            counts.changed += u64::from(changed);
             counts.above += u64::from(call.stream >= STREAMS);
         }
         Ok(())
     }
 
-    /// A call on another stream leaves the stream's words, one above 15 every word. Tells whether it changed any.
-    fn other(&mut self, call: &Call) -> Result<bool, String> {
+    /// A call on another stream leaves the stream's words, one above 15 every word. Gives its answer, and whether it changed a word.
+    fn other(&mut self, call: &Call) -> Result<(Answer, bool), String> {
         let before = *self.meter.words();
         let answer = self.meter.answer(call);
         let (after, what) = (self.meter.words(), || shown(call));
         alike(BEFORE_AND_AFTER, &before[self.k], &after[self.k], what)?;
         if call.stream >= STREAMS {
-            alike(["due", "given"], &refused_by_13(call), &answer, what)?;
+            alike(DUE_AND_GIVEN, &refused_by_13(call), &answer, what)?;
             alike(BEFORE_AND_AFTER, &before, after, what)?;
         }
-        Ok(before != *after)
+        Ok((answer, before != *after))
     }
 }
 

@@ -167,7 +167,10 @@ fn k9() -> Vec<Reading> {
 
 fn k9_among(others: &[Call], mut meter: Box<dyn TakesCalls>) -> Reading {
     let mut answer = |call: &Call| {
-        others.iter().for_each(|other| _ = meter.answer(other));
+        for other in others {
+            let given = meter.answer(other);
+            assert_eq!(given == Answer::Changed(Ok(())), other.stream == 1);
+        }
         meter.answer(call)
     };
     let metering = call(b'm', 0, 1_000);

@@ -16,4 +16,4 @@ unfolding near near_z floor root root_from component_table hydrogen_atoms allowa
 cases_hold = refl
 
 pub shared_holds : SharedHolds
-shared_holds = record { calls = refl; answers = refl; nobodys = refl; others = refl }
+shared_holds = record { calls = refl; answers = refl; above = refl; others = refl }

@@ -30,7 +30,7 @@ use Rattle.tally.specs.Tally.{last_stream, Ask, analysis, metering, totals, mean
 use Rattle.tally.specs.Demand.{SameInForce, nothing, known}
 use Rattle.tally.specs.Run.{totals_given}
 use Rattle.tally.specs.LentRun.{Words, LentDemand}
-use Rattle.tally.specs.OtherStreams.{calls_on, answers_on, only, of_the_meter, RanFresh, OtherStreams, ChosenStreams, AsIfAlone, NobodysRefused, NobodysChangeNothing, LentRanFresh, LentOtherStreams, MixedOtherStreams, LentNobodysRefused, LentNobodysChangeNothing, EveryListRanFresh}
+use Rattle.tally.specs.OtherStreams.{calls_on, answers_on, only, of_the_meter, RanFresh, OtherStreams, ChosenStreams, AsIfAlone, AboveRefused, AboveChangesNothing, LentRanFresh, LentOtherStreams, MixedOtherStreams, LentAboveRefused, LentAboveChangesNothing, EveryListRanFresh}
 use Rattle.tally.proofs.Alike.{Alike, totals_alike}
 use Rattle.tally.proofs.Demand.{from_fresh}
 use Rattle.tally.proofs.Exists.{to_mut, has_fresh, every_list_has_run}
@@ -80,7 +80,7 @@ module _ (chosen : ℕ → Bool) where
         subst (λ (s : StreamTally). Agree (tally_after t c) (otherwise u (decided (first_of (order_of c.stream c.ask s)) (with_tally u c.stream (left_by c.ask s)))))
         (a.each c.stream named) (put_in_both a (number_for t c) c.stream (left_by c.ask (tally_at t c.stream)))
 
-  -- a list of calls on the one, and the chosen ones of them on the other
+  -- the calls cs on the tally t, and those of them on chosen streams on the tally u
   record Projected (t u : Tally) (cs chosen-calls : List Call) (rs : List Answer) : Type 0 where
     pub agree : Agree (tallied t cs) (tallied u chosen-calls)
     pub answers : rs ≡ answers_to u chosen-calls
@@ -109,7 +109,6 @@ gas_found : {i : InForce Gas} {o : Option (List ℕ)} → SameInForce i o → i 
 gas_found nothing = refl
 gas_found (known bs gas ec em e) = ap Some (gas_is bs gas ec em (sym (clear_of_accepted six_of bs (numbers gas.properties) e).1))
 
--- at most one stream is alike to what the tally keeps
 same_given : {t u : Totals} → totals_are t ≡ totals_are u → t ≡ u
 same_given e = cc
 
@@ -123,6 +122,7 @@ totals_from x =
 same_totals : {t u : StreamTotals} → totals_given t ≡ totals_given u → t ≡ u
 same_totals e = ap totals_from (same_given e)
 
+-- at most one stream is alike to what the tally keeps
 same_stream : {s r : Stream} {l : StreamTally} → Alike s l → Alike r l → s ≡ r
 same_stream {s} {r} {l} a b =
     let gas = gas_found a.in_force ∙ sym (gas_found b.in_force) in
@@ -171,11 +171,11 @@ each_refused t (c ∷ cs) = go (above_last c.stream) refl (each_refused (tally_a
     go true e rest = cc (refused_above c.stream c.ask (tally_at t c.stream) e (given_by c.ask (tally_at t c.stream)), rest)
     go false e rest = rest
 
-pub nobodys_refused : NobodysRefused
-nobodys_refused cs rs m a = ap (answers_on above_last cs) (from_fresh a.made a.ran).answers ∙ each_refused fresh_tally cs
+pub above_refused : AboveRefused
+above_refused cs rs m a = ap (answers_on above_last cs) (from_fresh a.made a.ran).answers ∙ each_refused fresh_tally cs
 
-pub nobodys_change_nothing : NobodysChangeNothing
-nobodys_change_nothing cs ds rs ss m n a b same =
+pub above_changes_nothing : AboveChangesNothing
+above_changes_nothing cs ds rs ss m n a b same =
     let s = chosen_streams of_the_meter cs ds rs ss m n a b same in
     let p = (from_fresh a.made a.ran).linked in
     let q = (from_fresh b.made b.ran).linked in
@@ -208,12 +208,12 @@ lent_other_streams k low cs ds rs ss w v a b same =
     let s = mixed_other_streams k low cs ds rs ss (held a).meter v (on_meter a) b same in
     record { answers = s.answers; row = row_held a k low ∙ s.row }
 
-pub lent_nobodys_refused : LentNobodysRefused
-lent_nobodys_refused cs rs w a = nobodys_refused cs rs (held a).meter (on_meter a)
+pub lent_above_refused : LentAboveRefused
+lent_above_refused cs rs w a = above_refused cs rs (held a).meter (on_meter a)
 
-pub lent_nobodys_change_nothing : LentNobodysChangeNothing
-lent_nobodys_change_nothing cs ds rs ss w v a b same =
-    let s = nobodys_change_nothing cs ds rs ss (held a).meter (held b).meter (on_meter a) (on_meter b) same in
+pub lent_above_changes_nothing : LentAboveChangesNothing
+lent_above_changes_nothing cs ds rs ss w v a b same =
+    let s = above_changes_nothing cs ds rs ss (held a).meter (held b).meter (on_meter a) (on_meter b) same in
     record { answers = s.answers; words = (held a).holds ∙ ap packed s.meter ∙ sym (held b).holds }
 
 pub every_list_ran_fresh : EveryListRanFresh

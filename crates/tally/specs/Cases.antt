@@ -150,7 +150,7 @@ holds (rule f) = rule_holds f
 abbrev pub CasesHold : Type 0
 CasesHold = all holds cases ≡ true
 
--- of the calls among others, those that name the stream 0 are those of K9, with its answers; two name a stream above 15, and nine do not
+-- of the calls of `shared`, those on the stream 0 are those of K9, with its answers; two name a stream above 15, and nine do not
 abbrev pub calls_in : List (Call × Answer) → List Call
 calls_in = map (λ (p : Call × Answer). p.0)
 
@@ -160,5 +160,5 @@ answers_in = map (λ (p : Call × Answer). p.1)
 pub record SharedHolds : Type 0 where
   pub calls : calls_of 0 (calls_in shared) ≡ calls_in k9
   pub answers : answers_of 0 (calls_in shared) (answers_in shared) ≡ answers_in k9
-  pub nobodys : calls_on above_last (calls_in shared) ≡ on 16 (analysis k2) ∷ on 16 totals ∷ []
+  pub above : calls_on above_last (calls_in shared) ≡ on 16 (analysis k2) ∷ on 16 totals ∷ []
   pub others : length (calls_on of_the_meter (calls_in shared)) ≡ 9

@@ -78,19 +78,19 @@ pub record Alone (chosen : ℕ → Bool) (cs : List Call) (rs : List Answer) : T
 abbrev pub AsIfAlone : Type 0
 AsIfAlone = (chosen : ℕ → Bool) (cs : List Call) (rs : List Answer) (m : Meter) → RanFresh cs rs m → Alone chosen cs rs
 
--- a call that names a stream above 15 belongs to nobody. Each is refused by 13
-abbrev pub NobodysRefused : Type 0
-NobodysRefused =
+-- each call that names a stream above 15 is refused by 13
+abbrev pub AboveRefused : Type 0
+AboveRefused =
     (cs : List Call) (rs : List Answer) (m : Meter) → RanFresh cs rs m → answers_on above_last cs rs ≡ map (λ (c : Call). refused 13) (calls_on above_last cs)
 
--- and changes nothing: lists that are alike in all other calls have the same answers to those, and leave the same meter
+-- and such calls change nothing: lists that are alike in all other calls have the same answers to those, and leave the same meter
 pub record SameWithout (cs : List Call) (rs : List Answer) (m : Meter) (ds : List Call) (ss : List Answer) (n : Meter) : Type 0 where
   pub answers : answers_on of_the_meter cs rs ≡ answers_on of_the_meter ds ss
   pub meter : m ≡ n
   pub tally : tallied fresh_tally cs ≡ tallied fresh_tally ds
 
-abbrev pub NobodysChangeNothing : Type 0
-NobodysChangeNothing =
+abbrev pub AboveChangesNothing : Type 0
+AboveChangesNothing =
     (cs ds : List Call) (rs ss : List Answer) (m n : Meter) → RanFresh cs rs m → RanFresh ds ss n → calls_on of_the_meter cs ≡ calls_on of_the_meter ds →
     SameWithout cs rs m ds ss n
 
@@ -102,7 +102,7 @@ pub record LentRanFresh (cs : List Call) (rs : List Answer) (w : Words) : Type 0
   pub filled : FreshGave lifetimes old new
   pub ran : LentRun new.now cs rs w
 
--- the same of them: what is stored for the stream k are the words of its row
+-- of two such lists: what is stored for the stream k are the words of its row
 pub record LentSameFor (k : ℕ) (cs : List Call) (rs : List Answer) (w : Words) (ds : List Call) (ss : List Answer) (v : Words) : Type 0 where
   pub answers : answers_of k cs rs ≡ answers_of k ds ss
   pub row : get_or w k [] ≡ get_or v k []
@@ -123,16 +123,16 @@ MixedOtherStreams =
     calls_of k cs ≡ calls_of k ds → MixedSameFor k cs rs m ds ss v
 
 -- calls that name a stream above 15, on words
-abbrev pub LentNobodysRefused : Type 0
-LentNobodysRefused =
+abbrev pub LentAboveRefused : Type 0
+LentAboveRefused =
     (cs : List Call) (rs : List Answer) (w : Words) → LentRanFresh cs rs w → answers_on above_last cs rs ≡ map (λ (c : Call). refused 13) (calls_on above_last cs)
 
 pub record LentSameWithout (cs : List Call) (rs : List Answer) (w : Words) (ds : List Call) (ss : List Answer) (v : Words) : Type 0 where
   pub answers : answers_on of_the_meter cs rs ≡ answers_on of_the_meter ds ss
   pub words : w ≡ v
 
-abbrev pub LentNobodysChangeNothing : Type 0
-LentNobodysChangeNothing =
+abbrev pub LentAboveChangesNothing : Type 0
+LentAboveChangesNothing =
     (cs ds : List Call) (rs ss : List Answer) (w v : Words) → LentRanFresh cs rs w → LentRanFresh ds ss v → calls_on of_the_meter cs ≡ calls_on of_the_meter ds →
     LentSameWithout cs rs w ds ss v
 

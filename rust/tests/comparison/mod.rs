@@ -1,6 +1,5 @@
-//! A comparison of the proved library with the plain version on much random
-//! input, as a program of its own: its arguments, how often each answer came,
-//! and what it prints.
+//! A comparison on much random input, as a program of its own: its arguments,
+//! how often each answer came, and what it prints.
 
 // Each program that includes this module uses a part of it.
 #![allow(dead_code)]
@@ -217,7 +216,7 @@ pub fn same<T: PartialEq + Debug>(
     alike(["plain", "proved"], expected, proved, call)
 }
 
-/// The same of two values with other names.
+/// Where two named values differ, the call and both.
 pub fn alike<T: PartialEq + Debug>(
     names: [&str; 2],
     first: &T,

@@ -14,7 +14,7 @@ const TOTALS: usize = 2;
 const MEAN: usize = 3;
 const MEAN_INFERIOR: usize = 4;
 
-/// None yet, of calls that may name a stream above 15 or of calls that do not.
+/// No answers yet; 13 is among the numbers where calls may name a stream above 15.
 pub fn none_counted(above_15: bool) -> Answers<5> {
     let numbers = |order: &'static [u8]| if above_15 { order } else { &order[1..] };
     Answers::none([

@@ -7,6 +7,7 @@ use crate::calls::{analysis, call, Call};
 use crate::plain;
 use crate::plain::meter::{GREATEST_TOTAL, GREATEST_VOLUME};
 use crate::records::{self, hex, Random};
+use loonstool::Totals;
 
 /// A reading, an analysis or, most often, a metering call on one of the given streams.
 pub fn random_call(random: &mut Random, streams: &[usize]) -> Call {
@@ -48,6 +49,12 @@ fn accepted_record(random: &mut Random) -> Vec<u8> {
             return record;
         }
     }
+}
+
+/// What a stream with these totals takes until its volume total is the greatest, dm³.
+pub fn room<E>(totals: Result<Totals, E>) -> Option<u64> {
+    let totals = totals.ok();
+    totals.map(|totals| GREATEST_TOTAL - totals.volume)
 }
 
 /// Now and then, on a stream that has room for no more than one call can add, has a call fill it or pass the greatest total by one.

@@ -531,7 +531,7 @@ fn lengthen(random: &mut Random, draft: &mut Draft, least: usize) {
     draft.fractions.resize(length, 1);
 }
 
-/// Bytes in words.
+/// Bytes in hexadecimal, after their count.
 pub fn hex(bytes: &[u8]) -> String {
     let mut text = format!("({} bytes)", bytes.len());
     for byte in bytes {
