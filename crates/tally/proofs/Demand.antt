@@ -68,6 +68,7 @@ fresh_linked : Linked fresh_meter fresh_tally
 fresh_linked =
     record { sound = fresh_is_sound; count = refl; each = λ k. rw (at_made fresh_stream 16 k, at_made fresh_stream_tally 16 k) fresh_alike }
 
+-- a meter that `Meter::new` returned
 fresh_start : {m₀ : Meter} → FreshReturns m₀ → Linked m₀ fresh_tally
 fresh_start made = rw (made tt) fresh_linked
 
@@ -76,6 +77,7 @@ run : {m : Meter} {cs : List Call} {rs : List Answer} {m₂ : Meter} (t : Tally)
 run t h (ended m) = record { answers = refl; linked = h; leaves = no_call m }
 run t h (after m m₁ m₂ cs₁ cs rs₁ rs s more) = let n = step t h s in both n (run (tallied t cs₁) n.linked more)
 
+-- a list from such a meter
 pub from_fresh : {m₀ : Meter} {cs : List Call} {rs : List Answer} {m : Meter} → FreshReturns m₀ → Run m₀ cs rs m → Next fresh_tally m₀ cs rs m
 from_fresh made ran = run fresh_tally (fresh_start made) ran
 

@@ -1,5 +1,5 @@
--- What a list of calls leaves for chosen streams, and the answers to the calls that name them, are those of these calls alone, on the tally;
--- and at most one stream is alike to what the tally keeps for one.
+-- What a list of calls leaves for chosen streams, and the answers to the calls that name them, are those of these calls alone, on the
+-- tally; and at most one stream is alike to what the tally keeps for one.
 use mathlib.Core.Path.{◌≡◌, refl, sym, ap, subst, ◌∙◌}
 use mathlib.Core.Bool.{Bool, true, false, not, cond, true≢false}
 use mathlib.Core.List.{List, [], ◌∷◌, map}
@@ -87,16 +87,15 @@ module _ (chosen : ℕ → Bool) where
 
   projected : (cs : List Call) {t u : Tally} → Agree t u → Projected t u cs (calls_on chosen cs) (answers_on chosen cs (answers_to t cs))
   projected [] a = record { agree = a; answers = refl }
-  projected (c ∷ cs) {t} {u} a = go (chosen c.stream) refl (λ v b. projected cs b)
+  projected (c ∷ cs) {t} {u} a = go (chosen c.stream) refl (calls_on chosen cs) (λ v b. projected cs b)
     where
       after : Tally
       after = tally_after t c
 
-      go : (b : Bool) → chosen c.stream ≡ b → ((v : Tally) → Agree after v → Projected after v cs (calls_on chosen cs) (answers_on chosen cs (answers_to after cs))) →
-          Projected t u (c ∷ cs) (cond b (c ∷ calls_on chosen cs) (calls_on chosen cs))
-          (cond b (answer_to t c ∷ answers_on chosen cs (answers_to after cs)) (answers_on chosen cs (answers_to after cs)))
-      go true e rest = let r = rest (tally_after u c) (same_after a c e) in record { agree = r.agree; answers = cc (same_answer a c e, r.answers) }
-      go false e rest =
+      go : (b : Bool) → chosen c.stream ≡ b → (ds : List Call) {rs : List Answer} → ((v : Tally) → Agree after v → Projected after v cs ds rs) →
+          Projected t u (c ∷ cs) (cond b (c ∷ ds) ds) (cond b (answer_to t c ∷ rs) rs)
+      go true e ds rest = let r = rest (tally_after u c) (same_after a c e) in record { agree = r.agree; answers = cc (same_answer a c e, r.answers) }
+      go false e ds rest =
           let r = rest u (put_in_first a (number_for t c) c.stream (left_by c.ask (tally_at t c.stream)) e) in
           record { agree = r.agree; answers = r.answers }
 
@@ -163,13 +162,12 @@ refused_above k (mean e) s h g = rw h refl
 
 each_refused : (t : Tally) (cs : List Call) → answers_on above_last cs (answers_to t cs) ≡ map (λ (c : Call). refused 13) (calls_on above_last cs)
 each_refused t [] = refl
-each_refused t (c ∷ cs) = go (above_last c.stream) refl (each_refused (tally_after t c) cs)
+each_refused t (c ∷ cs) = go (above_last c.stream) refl (calls_on above_last cs) (each_refused (tally_after t c) cs)
   where
-    go : (b : Bool) → above_last c.stream ≡ b → answers_on above_last cs (answers_to (tally_after t c) cs) ≡ map (λ (c : Call). refused 13) (calls_on above_last cs) →
-        cond b (answer_to t c ∷ answers_on above_last cs (answers_to (tally_after t c) cs)) (answers_on above_last cs (answers_to (tally_after t c) cs))
-        ≡ map (λ (c : Call). refused 13) (cond b (c ∷ calls_on above_last cs) (calls_on above_last cs))
-    go true e rest = cc (refused_above c.stream c.ask (tally_at t c.stream) e (given_by c.ask (tally_at t c.stream)), rest)
-    go false e rest = rest
+    go : (b : Bool) → above_last c.stream ≡ b → (ds : List Call) {rs : List Answer} → rs ≡ map (λ (c : Call). refused 13) ds →
+        cond b (answer_to t c ∷ rs) rs ≡ map (λ (c : Call). refused 13) (cond b (c ∷ ds) ds)
+    go true e ds rest = cc (refused_above c.stream c.ask (tally_at t c.stream) e (given_by c.ask (tally_at t c.stream)), rest)
+    go false e ds rest = rest
 
 pub above_refused : AboveRefused
 above_refused cs rs m a = ap (answers_on above_last cs) (from_fresh a.made a.ran).answers ∙ each_refused fresh_tally cs
