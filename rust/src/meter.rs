@@ -79,8 +79,8 @@ type Mean = unsafe extern "sysv64" fn(*const Words, usize, *mut u64) -> u8;
 
 /// A meter of sixteen streams, 0 to 15, which its calls change in place. A stream takes an analysis, meters volumes, and answers its
 /// totals and its mean calorific values. A refused call leaves all of the meter as it was, an accepted one every other stream.
-/// From [`new`](Self::new) on, what a stream answers and holds depends on the calls that named it, on what they asked and on their order, and
-/// on no other call.
+/// From [`new`](Self::new) on, what a stream answers and holds depends on the calls that named it, on what they asked and on their order,
+/// and on no other call.
 ///
 /// # Power cuts
 ///

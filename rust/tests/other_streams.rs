@@ -1,6 +1,6 @@
 //! Makes two lists of calls, each on a fresh meter, that are alike in the calls that name a stream and free in the rest. After each of
-//! these calls its answer and the words of the stream's row are, in both lists, those of these calls made alone on a third meter; so they are
-//! the same in both.
+//! these calls its answer and the words of the stream's row are, in both lists, those of these calls made alone on a third meter; so they
+//! are the same in both.
 //!
 //! `cargo test --offline --release --test other_streams -- --pairs N --seed S`
 //!
@@ -136,7 +136,8 @@ struct List {
 }
 
 impl List {
-    /// Its other calls name at most four streams of the meter, the next one among them, and four above 15; some of these are k but for a bit.
+    /// Its other calls name four streams of the meter at most, the next one among them, and four above 15, of which two are k but for a
+    /// bit.
     fn of(random: &mut Random, k: usize) -> Self {
         let other = |random: &mut Random| (k + 1 + random.index(STREAMS - 1)) % STREAMS;
         let above = |random: &mut Random| k + (STREAMS << random.below(60));

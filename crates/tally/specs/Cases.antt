@@ -1,6 +1,6 @@
 -- The cases K1 to K10 of document 01, K9 among calls on other streams, a computed one of the inferior energy and the mass, and the records
--- of `limit_cases` as analyses, as one list, and one test over the definitions that computes to true over the whole list. Values per kilogram
--- stand in crates/properties/specs/Cases.antt.
+-- of `limit_cases` as analyses, as one list, and one test over the definitions that computes to true over the whole list. Values per
+-- kilogram stand in crates/properties/specs/Cases.antt.
 use Rattle.std.specs.Prelude.{◌≡◌, Bool, true, ◌&&◌, List, [], ◌∷◌, map, length, ℕ, ◌*◌, ◌-◌, eqb, leb, ℤ, pos, nat_abs, ◌-ℤ◌}
 use Rattle.components.specs.Table.{entry_of}
 use Rattle.components.specs.Table as table
@@ -150,13 +150,14 @@ holds (rule f) = rule_holds f
 abbrev pub CasesHold : Type 0
 CasesHold = all holds cases ≡ true
 
--- of the calls of `shared`, those on the stream 0 are those of K9, with its answers; two name a stream above 15, and nine do not
+-- the calls of a list, and their answers
 abbrev pub calls_in : List (Call × Answer) → List Call
 calls_in = map (λ (p : Call × Answer). p.0)
 
 abbrev pub answers_in : List (Call × Answer) → List Answer
 answers_in = map (λ (p : Call × Answer). p.1)
 
+-- of the calls of `shared`, those on the stream 0 are those of K9, with its answers; two name a stream above 15, and nine do not
 pub record SharedHolds : Type 0 where
   pub calls : calls_of 0 (calls_in shared) ≡ calls_in k9
   pub answers : answers_of 0 (calls_in shared) (answers_in shared) ≡ answers_in k9

@@ -1,6 +1,6 @@
 -- What calls on other streams leave alone: two lists of calls, each from a fresh meter, that are alike in the calls that name a stream. The
--- answers to these calls are the same, and so is all that is stored for the stream. On other streams each list may have any number
--- of calls at any places, refused ones and ones on streams above 15 among them.
+-- answers to these calls are the same, and so is all that is stored for the stream. On other streams each list may have any number of
+-- calls at any places, refused ones and ones on streams above 15 among them.
 use Rattle.std.specs.Prelude.{◌≡◌, Bool, true, not, cond, List, [], ◌∷◌, map, ℕ, ◌≤◌, eqb, get_or}
 use contract.Lifetimes.{Lfts}
 use Rattle.std.specs.Borrow.{MutBor}
@@ -69,8 +69,8 @@ ChosenStreams =
     (chosen : ℕ → Bool) (cs ds : List Call) (rs ss : List Answer) (m n : Meter) → RanFresh cs rs m → RanFresh ds ss n →
     calls_on chosen cs ≡ calls_on chosen ds → SameOn chosen cs rs m ds ss n
 
--- it is as if the calls that name a chosen stream were the only ones: the tally gives these answers to them alone, and keeps for these streams
--- what it keeps after them alone
+-- it is as if the calls that name a chosen stream were the only ones: the tally gives these answers to them alone, and keeps for these
+-- streams what it keeps after them alone
 pub record Alone (chosen : ℕ → Bool) (cs : List Call) (rs : List Answer) : Type 0 where
   pub answers : answers_on chosen cs rs ≡ answers_to fresh_tally (calls_on chosen cs)
   pub tally : (k : ℕ) → chosen k ≡ true → tally_at (tallied fresh_tally cs) k ≡ tally_at (tallied fresh_tally (calls_on chosen cs)) k
