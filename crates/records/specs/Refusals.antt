@@ -25,6 +25,9 @@ number refusal.TotalPasses = 17
 number refusal.TotalZero = 18
 number refusal.ListsDiffer = 19
 number refusal.RoomShort = 20
+number refusal.NoDayFile = 21
+number refusal.OffsetOutside = 22
+number refusal.BlockCut = 23
 
 -- accepted, or refused
 abbrev pub Verdict : Type 0

@@ -4,7 +4,7 @@ ghost use Rattle.records.specs.Refusals.{number};
 
 use std::fmt;
 
-// The first twelve are those of a record, 13 to 18 those of a meter's calls, 19 and 20 the writer's own.
+// The first twelve are those of a record, 13 to 18 those of a meter's calls, 19 and 20 the writer's own, and 21 to 23 those of a day file.
 #[derive(Clone, Copy, Debug, PartialEq, Eq)]
 pub enum Refusal {
     TooShort = 1,
@@ -27,6 +27,9 @@ pub enum Refusal {
     TotalZero,
     ListsDiffer,
     RoomShort,
+    NoDayFile,
+    OffsetOutside,
+    BlockCut,
 }
 
 impl Refusal {
