@@ -5,4 +5,6 @@ mod Means
 pub mod Kept
 pub mod Analyses
 pub mod Outcomes
+pub mod Daily
+pub mod DayOnMeter
 mod LimitBeforeSum

@@ -11,7 +11,7 @@ use Rattle.records.specs.Conditions.{record_order}
 use Rattle.records.proofs.OrderLaws.{unmet, clear_first, clear_second}
 use Rattle.meter.specs.declared.Stream.{Stream}
 use Rattle.meter.specs.State.{last_stream, most_volume, most_total}
-use Rattle.meter.specs.Conditions.{pair_differs, no_analysis, analysis_order, metering_order, AnalysisNumbers, MeteringNumbers, TotalsNumbers, MeanNumbers}
+use Rattle.meter.specs.Conditions.{pair_differs, no_analysis, analysis_order, metering_order, AnalysisNumbers, MeteringNumbers, TotalsNumbers, MeanNumbers, DayNumbers}
 
 pub analysis_numbers : AnalysisNumbers
 analysis_numbers k bs s = refl
@@ -24,6 +24,9 @@ totals_numbers k = refl
 
 pub mean_numbers : MeanNumbers
 mean_numbers k s = refl
+
+pub day_numbers : DayNumbers
+day_numbers k file volumes = refl
 
 -- 13, which every call tries first
 pub above : {k : ℕ} (rest : Order) → last_stream < k → 13 ≡ first_of ((13, ltb last_stream k) ∷ rest)

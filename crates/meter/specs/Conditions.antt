@@ -1,8 +1,9 @@
 -- The conditions of refusal of the calls on a meter, with document 01's numbers, and their orders.
-use Rattle.std.specs.Prelude.{◌≡◌, Bool, true, false, not, ◌||◌, List, [], ◌∷◌, ◌++◌, ℕ, ◌+◌, eqb, ltb, Option, Some, None}
+use Rattle.std.specs.Prelude.{◌≡◌, Bool, true, false, not, ◌||◌, List, [], ◌∷◌, ◌++◌, ℕ, ◌+◌, eqb, ltb, length, Option, Some, None}
 use Rattle.records.specs.Order.{Order, numbers_of}
 use Rattle.records.specs.Format.{combustion_in, metering_in}
 use Rattle.records.specs.Conditions.{record_order, record_numbers}
+use Rattle.day_file.specs.Format.{blocks_of, file_order}
 use Rattle.meter.specs.declared.Gas.{Gas}
 use Rattle.meter.specs.declared.Stream.{Stream}
 use Rattle.meter.specs.State.{last_stream, most_volume, most_total}
@@ -32,6 +33,10 @@ total_passes total v = ltb most_total (total + v)
 -- 18: mean wanted at volume total 0
 abbrev pub total_zero : ℕ → Bool
 total_zero total = eqb total 0
+
+-- 19, of a day file: its blocks and the volumes differ in number
+abbrev pub lists_differ : List ℕ → ℕ → Bool
+lists_differ file volumes = not (eqb volumes (length (blocks_of file)))
 
 -- 14; 15, 16 and 17; and 18, from whether each of them holds
 abbrev pub pair_order : Bool → Order
@@ -63,7 +68,11 @@ totals_order k = (13, stream_above k) ∷ []
 abbrev pub mean_order : ℕ → Stream → Order
 mean_order k s = (13, stream_above k) ∷ zero_order (total_zero s.totals.volume)
 
--- analysis tries 13, 1 to 8, 10 to 12, 9, 14; metering 13, 15, 16, 17; totals 13; each mean 13, 18
+abbrev pub day_order : ℕ → List ℕ → ℕ → Order
+day_order k file volumes = (13, stream_above k) ∷ file_order file ++ ((19, lists_differ file volumes) ∷ [])
+
+-- analysis tries 13, 1 to 8, 10 to 12, 9, 14; metering 13, 15, 16, 17; totals 13; each mean 13, 18; a day file
+-- 13, 21, 23, 19
 abbrev pub AnalysisNumbers : Type 0
 AnalysisNumbers = (k : ℕ) (bs : List ℕ) (s : Stream) → numbers_of (analysis_order k bs s) ≡ 13 ∷ record_numbers ++ (14 ∷ [])
 
@@ -75,3 +84,6 @@ TotalsNumbers = (k : ℕ) → numbers_of (totals_order k) ≡ 13 ∷ []
 
 abbrev pub MeanNumbers : Type 0
 MeanNumbers = (k : ℕ) (s : Stream) → numbers_of (mean_order k s) ≡ 13 ∷ 18 ∷ []
+
+abbrev pub DayNumbers : Type 0
+DayNumbers = (k : ℕ) (file : List ℕ) (volumes : ℕ) → numbers_of (day_order k file volumes) ≡ 13 ∷ 21 ∷ 23 ∷ 19 ∷ []

@@ -12,8 +12,15 @@ ghost use Rattle.properties.specs.Answers.{numbers};
 ghost use Rattle.meter.specs.State.{last_stream, most_volume, most_total, fresh_meter, SoundEnergy, SoundTotals};
 ghost use Rattle.meter.specs.Conditions.{pair_differs, totals_order};
 ghost use Rattle.meter.specs.Calls.{booked, added, stream_analysis, stream_metering, analysis_of, metering_of, totals_of, mean_over, mean_for, register_of};
+ghost use Rattle.meter.specs.Days.{stream_day, day_of, GivesDay};
 ghost use Rattle.meter.specs.Answers.{totals_meaning, mean_meaning};
+ghost use Rattle.day_file.specs.Format.{blocks_of};
 
+mod day;
+
+pub use day::{Counts, check_day};
+
+use day_file::DayFile;
 use properties::Properties;
 use properties::quantities::CalorificValue;
 use records::{Pair, Record, Refusal};
@@ -196,6 +203,22 @@ impl Stream {
         self.totals = self.totals.added(gas.properties, volume);
         Ok(())
     }
+
+    // The blocks of a day file, each with its volume: first the record comes into force, then the volume is taken. A refusal stops nothing.
+    pub fn day(&mut self, day: &DayFile, volumes: &[u64]) -> Counts
+        ensures { record { counts = result; left = self.new } ≡ stream_day self.old (blocks_of day.now.file.now) volumes.now }
+    {
+        let mut counts = Counts::default();
+        let mut blocks = day.blocks();
+        for volume in volumes {
+            let Some(block) = blocks.next() else {
+                break;
+            };
+            counts.analyses += usize::from(self.analysis(block).is_ok());
+            counts.volumes += usize::from(self.metering(*volume).is_ok());
+        }
+        counts
+    }
 }
 
 impl Meter {
@@ -226,6 +249,14 @@ impl Meter {
     {
         check_stream(stream)?;
         self.streams[stream].metering(volume)
+    }
+
+    // A stream takes the analyses and the volumes of a day file, one volume for each block.
+    pub fn day(&mut self, stream: usize, file: &[u8], volumes: &[u64]) -> Result<Counts, Refusal>
+        ensures { GivesDay (day_of self.old stream file.now volumes.now) self.old result self.new }
+    {
+        let day = check_day(stream, file, volumes.len())?;
+        Ok(self.streams[stream].day(&day, volumes))
     }
 
     // The volume, the energies and the mass of a stream.

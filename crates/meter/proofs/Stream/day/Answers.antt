@@ -1,0 +1,46 @@
+-- Each block and its volume are counted; with no volume more, or no block more, the day is over.
+use mathlib.Core.Path.{◌≡◌, refl, sym, ap, ◌∙◌}
+use Rattle.std.proofs.Common.{arith, length}
+use Rattle.std.proofs.lemmas.List.{drop_more, drop_all}
+use Rattle.day_file.specs.Format.{split_all, blocks_of}
+use Rattle.meter.specs.Calls.{stream_analysis, stream_metering}
+use Rattle.meter.specs.Days.{stream_day}
+use Rattle.meter.proofs.Daily.{byte_at_most, at_first, counts_fit, one_taken, over, no_blocks, no_volumes}
+use Rattle.meter.proofs.Stream.day.Goals as goal
+
+pub loop-volume-init : goal.loop-volume-init
+loop-volume-init c =
+    let b = c.blocks-blocks.ensures in
+    at_first stream_analysis stream_metering _ _ _ _ _ c.default-counts.result c.default-counts.ensures.0 c.default-counts.ensures.1 (rw b) (omega arith)
+
+pub overflow_add-counts : goal.overflow_add-counts
+overflow_add-counts c =
+    let vs = c.args.volumes.now in
+    omega (arith, counts_fit stream_analysis stream_metering _ _ c.loop-volume.invariant (drop_more vs c.loop-volume.volume-index 0 (omega arith)), c.from.ensures, byte_at_most c.is_ok.result)
+
+pub overflow_add-counts-in-loop-volume : goal.overflow_add-counts-in-loop-volume
+overflow_add-counts-in-loop-volume c =
+    let vs = c.args.volumes.now in
+    omega (arith, counts_fit stream_analysis stream_metering _ _ c.loop-volume.invariant (drop_more vs c.loop-volume.volume-index 0 (omega arith)), c.from-in-loop-volume.ensures,
+    byte_at_most c.is_ok-in-loop-volume.result)
+
+pub loop-volume-preserved : goal.loop-volume-preserved
+loop-volume-preserved c =
+    let vs = c.args.volumes.now in
+    rw (c.from.ensures, c.is_ok.ensures.value, c.from-in-loop-volume.ensures, c.is_ok-in-loop-volume.ensures.value)
+    (one_taken stream_analysis stream_metering _ _ c.analysis.result c.metering.result c.loop-volume.invariant c.in-Some.ensures.steps
+    (drop_more vs c.loop-volume.volume-index 0 (omega arith)) c.analysis.ensures c.metering.ensures)
+
+pub returns-after-loop-volume : goal.returns-after-loop-volume
+returns-after-loop-volume c =
+    let vs = c.args.volumes.now in
+    let all = stream_day c.args.self.now (blocks_of c.args.day.now.file.now) vs in
+    over stream_analysis stream_metering all (length vs) c.loop-volume.invariant
+    (no_volumes stream_analysis stream_metering all (length vs) _ _ (drop_all c.loop-volume.volume-index vs (omega arith)))
+
+pub returns-in_default : goal.returns-in_default
+returns-in_default c =
+    let vs = c.args.volumes.now in
+    let all = stream_day c.args.self.now (blocks_of c.args.day.now.file.now) vs in
+    over stream_analysis stream_metering all (length vs) c.loop-volume.invariant
+    (no_blocks stream_analysis stream_metering all (length vs) _ _ c.in_default.ensures.steps.0)
