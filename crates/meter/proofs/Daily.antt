@@ -12,7 +12,7 @@ use Rattle.records.specs.Refusals.{Verdict}
 use Rattle.records.specs.Order.{Outcome, refused, accepted, otherwise}
 use Rattle.records.specs.Answers.{Gives}
 use Rattle.meter.specs.declared.day.Counts.{Counts}
-use Rattle.meter.specs.Days.{Day, no_day, one_of, with_calls, day_by}
+use Rattle.meter.specs.Days.{Day, no_day, one_of, day_by}
 
 -- the answer to a call counts as one where the call is accepted
 counted : {A : Type 0} (o : Outcome A) (before after : A) (v : Verdict) → Gives o before v after → bool_byte (is_ok v) ≡ one_of o

@@ -1,34 +1,34 @@
 -- What is shown of every meter.
 use mathlib.Core.Path.{◌≡◌, refl, sym, subst, ◌∙◌}
 use mathlib.Core.Bool.{Bool, true, false, cond}
-use mathlib.Core.List.{List}
+use mathlib.Core.List.{List, [], ◌∷◌}
 use Rattle.std.specs.Prelude.{Option, Some, None}
 use Prim.Native.Nat.{ℕ, zero, suc, ◌+◌, ◌*◌, ◌^◌, ◌≤◌, ◌<◌}
 use native.Mathlib.Nat.{le_of_lt, lt_trans, mul-le-mul}
 use native.Mathlib.Omega.{arith}
 use borrow.Author.Tests.{le-ltb, ltb-false, eqb-false}
 use lib.Dec.{eqb}
-use lib.ListN.{length-set}
+use lib.ListN.{length, length-set}
 use lib.Seq.{get_or-set_other}
-use Rattle.records.specs.Refusals.{Verdict}
 use Rattle.records.specs.Order.{accepted, first_of, decided, otherwise}
 use Rattle.records.specs.Format.{contents_in}
 use Rattle.records.specs.Conditions.{record_order}
-use Rattle.records.specs.Answers.{Gives}
 use Rattle.records.proofs.OrderLaws.{unmet, decided_accepted}
 use Rattle.records.proofs.RoundTrips.{accepted_head}
 use Rattle.records.proofs.Accepted.{acceptable}
 use Rattle.properties.specs.Bounds.{calorific_low, density_low}
 use Rattle.properties.specs.Quantities.{calorific_bound, density_bound}
 use Rattle.properties.proofs.Gas.{proper, density_by_air}
+use Rattle.day_file.specs.Format.{blocks_of}
 use Rattle.meter.specs.declared.Gas.{Gas}
 use Rattle.meter.specs.declared.Register.{Register}
 use Rattle.meter.specs.declared.Stream.{Stream}
 use Rattle.meter.specs.declared.Meter.{Meter}
 use Rattle.meter.specs.State.{last_stream, most_total, SoundRegister, SoundEnergy, SoundTotals, SoundGas, SoundAnalysis, SoundStream, Sound, fresh_stream, stream_at, with_stream, per_mj, per_kg}
-use Rattle.meter.specs.Conditions.{analysis_order, metering_order, mean_order}
+use Rattle.meter.specs.Conditions.{analysis_order, metering_order, mean_order, day_order}
 use Rattle.meter.specs.Calls.{gas_of, analysed, booked, with_volume, metered, after_analysis, after_metering, mean_in, mean_reading}
-use Rattle.meter.specs.Kept.{FreshIsSound, AnalysisKeeps, MeteringKeeps, AnalysisLeavesOthers, MeteringLeavesOthers, ZeroIsAccepted, PartsFit, RegistersFit, NoMeanAboveCeiling}
+use Rattle.meter.specs.Days.{meter_day, day_of, left_in}
+use Rattle.meter.specs.Kept.{FreshIsSound, AnalysisKeeps, MeteringKeeps, DayKeeps, AnalysisLeavesOthers, MeteringLeavesOthers, DayLeavesOthers, ZeroIsAccepted, PartsFit, RegistersFit, NoMeanAboveCeiling}
 use Rattle.meter.proofs.Orders.{clear_analysis, clear_metering}
 use Rattle.meter.proofs.Registers.{sound_booked, booked_at_most, whole_below}
 use Rattle.meter.proofs.Streams.{at_made, at_put}
@@ -106,16 +106,44 @@ pub metering_keeps : MeteringKeeps
 metering_keeps m k w v after gives h = subst Sound (sym gives.stands) (sound_after_metering k w m h)
 
 -- every other stream after a call that replaces one
-pub others_stay : (n : ℕ) (m : Meter) (k : ℕ) (s : Stream) (v : Verdict) (after : Meter) → Gives (decided n (with_stream m k s)) m v after →
-    (j : ℕ) → (j ≡ k → ⊥) → stream_at after j ≡ stream_at m j
-others_stay zero m k s v after gives j e = rw gives.stands (get_or-set_other m.streams k j s fresh_stream e)
-others_stay (suc n) m k s v after gives j e = rw gives.stands
+pub others_stay : (n : ℕ) (m : Meter) (k : ℕ) (s : Stream) (j : ℕ) → (j ≡ k → ⊥) → stream_at (otherwise m (decided n (with_stream m k s))) j ≡ stream_at m j
+others_stay zero m k s j e = get_or-set_other m.streams k j s fresh_stream e
+others_stay (suc n) m k s j e = refl
+
+others_after_analysis : (k : ℕ) (bs : List ℕ) (m : Meter) (j : ℕ) → (j ≡ k → ⊥) → stream_at (after_analysis m k bs) j ≡ stream_at m j
+others_after_analysis k bs m = others_stay (first_of (analysis_order k bs (stream_at m k))) m k (analysed (stream_at m k) bs)
+
+others_after_metering : (k v : ℕ) (m : Meter) (j : ℕ) → (j ≡ k → ⊥) → stream_at (after_metering m k v) j ≡ stream_at m j
+others_after_metering k v m = others_stay (first_of (metering_order k v (stream_at m k))) m k (metered (stream_at m k) v)
 
 pub analysis_leaves_others : AnalysisLeavesOthers
-analysis_leaves_others m k bs v after = others_stay (first_of (analysis_order k bs (stream_at m k))) m k (analysed (stream_at m k) bs) v after
+analysis_leaves_others m k bs v after gives j e = rw gives.stands (others_after_analysis k bs m j e)
 
 pub metering_leaves_others : MeteringLeavesOthers
-metering_leaves_others m k w v after = others_stay (first_of (metering_order k w (stream_at m k))) m k (metered (stream_at m k) w) v after
+metering_leaves_others m k w v after gives j e = rw gives.stands (others_after_metering k w m j e)
+
+-- what every call keeps, a day file keeps
+module _ (k : ℕ) (P : Meter → Type 0) (analysis : (m : Meter) (bs : List ℕ) → P m → P (after_analysis m k bs)) (metering : (m : Meter) (v : ℕ) → P m → P (after_metering m k v)) where
+  by_day : (bs : List (List ℕ)) (vs : List ℕ) (m : Meter) → P m → P (meter_day k m bs vs).left
+  by_day [] vs m h = h
+  by_day (b ∷ bs) [] m h = h
+  by_day (b ∷ bs) (v ∷ vs) m h = by_day bs vs (after_metering (after_analysis m k b) k v) (metering (after_analysis m k b) v (analysis m b h))
+
+  pub after_day : (file vs : List ℕ) (m : Meter) → P m → P (otherwise m (left_in (day_of m k file vs)))
+  after_day file vs m h = go (first_of (day_order k file (length vs)))
+    where
+      go : (n : ℕ) → P (otherwise m (left_in (decided n (meter_day k m (blocks_of file) vs))))
+      go zero = by_day (blocks_of file) vs m h
+      go (suc n) = h
+
+pub day_keeps : DayKeeps
+day_keeps m k file vs r after gives h =
+    subst Sound (sym gives.stands) (after_day k Sound (λ n bs. sound_after_analysis k bs n) (λ n v. sound_after_metering k v n) file vs m h)
+
+pub day_leaves_others : DayLeavesOthers
+day_leaves_others m k file vs r after gives j e =
+    rw gives.stands
+    (after_day k (λ (n : Meter). stream_at n j ≡ stream_at m j) (λ n bs h. others_after_analysis k bs n j e ∙ h) (λ n v h. others_after_metering k v n j e ∙ h) file vs m refl)
 
 pub zero_is_accepted : ZeroIsAccepted
 zero_is_accepted m k h b some =

@@ -1,16 +1,19 @@
 -- What is shown of every meter. `Sound` holds of a meter as made, and every call that may change the meter keeps it. What it says of a
 -- stream is the invariant of the stream's type, so no contract of a call on a meter asks for it.
-use Rattle.std.specs.Prelude.{◌≡◌, false, List, ℕ, ◌*◌, ◌^◌, ◌≤◌, ◌<◌}
+use Rattle.std.specs.Prelude.{◌≡◌, false, List, ℕ, ◌*◌, ◌^◌, ◌≤◌, ◌<◌, Result}
+use Rattle.records.specs.declared.refusal.Refusal.{Refusal}
 use Rattle.records.specs.Refusals.{Verdict}
 use Rattle.records.specs.Order.{Outcome, accepted, first_of}
 use Rattle.records.specs.Answers.{Gives}
 use Rattle.properties.specs.Quantities.{calorific_bound}
+use Rattle.meter.specs.declared.day.Counts.{Counts}
 use Rattle.meter.specs.declared.Register.{Register}
 use Rattle.meter.specs.declared.StreamTotals.{StreamTotals}
 use Rattle.meter.specs.declared.Meter.{Meter}
 use Rattle.meter.specs.State.{last_stream, most_volume, SoundTotals, Sound, fresh_meter, stream_at}
 use Rattle.meter.specs.Conditions.{no_analysis, metering_order}
 use Rattle.meter.specs.Calls.{analysis_of, metering_of, mean_of, mean_inferior_of}
+use Rattle.meter.specs.Days.{day_of, GivesDay}
 
 abbrev pub FreshIsSound : Type 0
 FreshIsSound = Sound fresh_meter
@@ -22,6 +25,10 @@ AnalysisKeeps = (m : Meter) (k : ℕ) (bs : List ℕ) (v : Verdict) (after : Met
 abbrev pub MeteringKeeps : Type 0
 MeteringKeeps = (m : Meter) (k w : ℕ) (v : Verdict) (after : Meter) → Gives (metering_of m k w) m v after → Sound m → Sound after
 
+abbrev pub DayKeeps : Type 0
+DayKeeps =
+    (m : Meter) (k : ℕ) (file vs : List ℕ) (r : Result Counts Refusal) (after : Meter) → GivesDay (day_of m k file vs) m r after → Sound m → Sound after
+
 -- only the named stream may change: every other stream is as it was
 abbrev pub AnalysisLeavesOthers : Type 0
 AnalysisLeavesOthers =
@@ -31,6 +38,11 @@ AnalysisLeavesOthers =
 abbrev pub MeteringLeavesOthers : Type 0
 MeteringLeavesOthers =
     (m : Meter) (k w : ℕ) (v : Verdict) (after : Meter) → Gives (metering_of m k w) m v after →
+    (j : ℕ) → (j ≡ k → ⊥) → stream_at after j ≡ stream_at m j
+
+abbrev pub DayLeavesOthers : Type 0
+DayLeavesOthers =
+    (m : Meter) (k : ℕ) (file vs : List ℕ) (r : Result Counts Refusal) (after : Meter) → GivesDay (day_of m k file vs) m r after →
     (j : ℕ) → (j ≡ k → ⊥) → stream_at after j ≡ stream_at m j
 
 -- volume 0 is accepted on every stream that has an analysis

@@ -1,8 +1,7 @@
 -- Each block and its volume are counted; with no volume more, or no block more, the day is over.
-use mathlib.Core.Path.{◌≡◌, refl, sym, ap, ◌∙◌}
 use Rattle.std.proofs.Common.{arith, length}
 use Rattle.std.proofs.lemmas.List.{drop_more, drop_all}
-use Rattle.day_file.specs.Format.{split_all, blocks_of}
+use Rattle.day_file.specs.Format.{blocks_of}
 use Rattle.meter.specs.Calls.{stream_analysis, stream_metering}
 use Rattle.meter.specs.Days.{stream_day}
 use Rattle.meter.proofs.Daily.{byte_at_most, at_first, counts_fit, one_taken, over, no_blocks, no_volumes}
