@@ -2,7 +2,6 @@
 use mathlib.Core.Path.{◌≡◌, refl, sym, ap, subst, ◌∙◌}
 use mathlib.Core.List.{List, [], ◌∷◌, map}
 use Prim.Native.Nat.{ℕ, zero, suc}
-use lib.ListN.{get_or}
 use Rattle.std.proofs.lemmas.List.{map-set}
 use Rattle.records.specs.Order.{Outcome, refused, accepted, decided, otherwise, mapped}
 use Rattle.records.specs.Answers.{number_of}
@@ -11,12 +10,13 @@ use Rattle.meter.specs.declared.Gas.{Gas}
 use Rattle.meter.specs.declared.StreamTotals.{StreamTotals}
 use Rattle.meter.specs.declared.Stream.{Stream}
 use Rattle.meter.specs.declared.Meter.{Meter}
-use Rattle.meter.specs.State.{Sound, fresh_meter, with_stream}
+use Rattle.meter.specs.State.{SoundStream, Sound, fresh_meter, with_stream}
 use Rattle.meter.specs.Calls.{analysis_of, metering_of}
-use Rattle.meter.proofs.Kept.{fresh_is_sound, sound_after_analysis, sound_after_metering}
-use Rattle.lent_meter.specs.Words.{packed_totals, analysis_words, packed_stream, packed, gas_in, totals_in}
-use Rattle.lent_meter.specs.Lent.{Lent, OnWords, Leaves}
-use Rattle.lent_meter.specs.Kept.{FreshIsLent, AnalysisKeepsLent, MeteringKeepsLent, PackedIsInjective}
+use Rattle.meter.specs.Days.{Day, turned, left_in, day_of}
+use Rattle.meter.proofs.Kept.{fresh_is_sound, sound_after_analysis, sound_after_metering, sound_after_day}
+use Rattle.lent_meter.specs.Words.{packed_totals, analysis_words, packed_stream, packed, stream_in}
+use Rattle.lent_meter.specs.Lent.{LentRow, Lent, OnWords, Leaves}
+use Rattle.lent_meter.specs.Kept.{FreshIsLent, AnalysisKeepsLent, MeteringKeepsLent, DayKeepsLent, PackedIsInjective}
 use Rattle.lent_meter.proofs.Outcomes.{left_alone, leaves_others}
 
 pub fresh_is_lent : FreshIsLent
@@ -25,6 +25,10 @@ fresh_is_lent = record { meter = fresh_meter; sound = fresh_is_sound; holds = re
 pub packed_otherwise : (m : Meter) (o : Outcome Meter) → otherwise (packed m) (mapped packed o) ≡ packed (otherwise m o)
 packed_otherwise m (refused n) = refl
 packed_otherwise m (accepted a) = refl
+
+packed_left : (m : Meter) (o : Outcome (Day Meter)) → otherwise (packed m) (left_in (mapped (turned packed) o)) ≡ packed (otherwise m (left_in o))
+packed_left m (refused n) = refl
+packed_left m (accepted d) = refl
 
 -- the words after a call hold the meter after it
 pub held_after : (call : Meter → Outcome Meter) (m : Meter) {n : ℕ} {before after : List (List ℕ)} → OnWords call before n after → Sound m → before ≡ packed m →
@@ -39,6 +43,16 @@ module _ (call : Meter → Outcome Meter) (kept : (m : Meter) → Sound m → So
 pub analysis_keeps_lent : AnalysisKeepsLent
 analysis_keeps_lent k bs n before after = keeps (λ (m : Meter). analysis_of m k bs) (sound_after_analysis k bs)
 
+pub day_keeps_lent : DayKeepsLent
+day_keeps_lent k file vs r before after on l =
+    let m = l.meter in
+    let gives = on m l.sound l.holds in
+    record {
+      meter = otherwise m (left_in (day_of m k file vs));
+      sound = sound_after_day k file vs m l.sound;
+      holds = gives.stands ∙ ap (λ (w : List (List ℕ)). otherwise w (left_in (mapped (turned packed) (day_of m k file vs)))) l.holds ∙ packed_left m (day_of m k file vs);
+    }
+
 pub metering_keeps_lent : MeteringKeepsLent
 metering_keeps_lent k v n before after = keeps (λ (m : Meter). metering_of m k v) (sound_after_metering k v)
 
@@ -48,17 +62,13 @@ pub leaves_packed : (n : ℕ) (m : Meter) (k : ℕ) (s : Stream) →
 leaves_packed zero m k s = subst (Leaves k (packed m) 0) (sym (map-set packed_stream m.streams k s)) (leaves_others k (packed m) (λ h. elim (h refl) [ ]))
 leaves_packed (suc n) m k s = left_alone k (packed m) (suc n)
 
--- the stream of a row
-abbrev analysis_in : ℕ → List ℕ → Option Gas
-analysis_in zero row = None
-analysis_in (suc n) row = Some (gas_in row)
-
-abbrev stream_in : List ℕ → Stream
-stream_in row = record { analysis = analysis_in (get_or row 0 0) row; totals = totals_in row }
-
-stream_back : (a : Option Gas) (t : StreamTotals) → stream_in (analysis_words a (packed_totals t)) ≡ record { analysis = a; totals = t }
+-- a row holds its stream
+pub stream_back : (a : Option Gas) (t : StreamTotals) → stream_in (analysis_words a (packed_totals t)) ≡ record { analysis = a; totals = t }
 stream_back None t = refl
 stream_back (Some gas) t = refl
+
+pub sound_in : {row : List ℕ} → LentRow row → SoundStream (stream_in row)
+sound_in l = let s = l.stream in subst SoundStream (sym (ap stream_in l.holds ∙ stream_back s.analysis s.totals)) l.sound
 
 streams_back : (l : List Stream) → map stream_in (map packed_stream l) ≡ l
 streams_back [] = refl

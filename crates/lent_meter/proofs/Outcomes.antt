@@ -2,20 +2,26 @@
 -- words.
 use mathlib.Core.Path.{◌≡◌, refl, sym, ap, subst, ◌∙◌}
 use mathlib.Core.List.{List, [], ◌∷◌}
-use Prim.Native.Nat.{ℕ, zero, suc, ◌≤◌}
+use Prim.Native.Nat.{ℕ, zero, suc, ◌≤◌, ◌<◌}
 use native.Mathlib.Omega.{arith}
 use lib.Dec.{ltb}
-use lib.ListN.{get_or, set}
+use lib.ListN.{length, get_or, set}
 use lib.Seq.{set-get_or, get_or-set_other}
 use Rattle.std.proofs.lemmas.List.{get_or-map, map-set}
-use Rattle.records.specs.Order.{Order, first_of, decided, mapped}
+use Rattle.std.specs.Prelude.{Ok}
+use Rattle.records.specs.Order.{Order, first_of, accepted, decided, mapped}
 use Rattle.records.specs.Answers.{Returns}
 use Rattle.records.proofs.OrderLaws.{refuses, mapped_decided}
 use Rattle.records.proofs.Returned.{refusal}
+use Rattle.day_file.specs.Format.{blocks_of}
+use Rattle.meter.specs.declared.day.Counts.{Counts}
 use Rattle.meter.specs.declared.Stream.{Stream}
 use Rattle.meter.specs.declared.Meter.{Meter}
 use Rattle.meter.specs.State.{last_stream, Sound, fresh_stream, stream_at, with_stream}
+use Rattle.meter.specs.Conditions.{day_order}
+use Rattle.meter.specs.Days.{Day, turned, stream_day, day_of, GivesDay}
 use Rattle.meter.proofs.Orders.{not_above}
+use Rattle.meter.proofs.DayOnMeter.{day_on_meter}
 use Rattle.lent_meter.specs.Words.{packed_stream, packed}
 use Rattle.lent_meter.specs.Lent.{LentRow, Lent, Leaves, LeavesRow}
 
@@ -44,6 +50,22 @@ module _ {words : List (List ℕ)} (m : Meter) (sound : Sound m) (holds : words 
   lifted low new rest {number} {row} r =
       subst (λ (n : ℕ). Returns (mapped packed (decided n (with_stream m k new))) words number (set words k row)) (not_above rest low)
       (with_number new (first_of rest) r)
+
+  -- a day file that no number refuses, from what it gave on the stream's row
+  pub day_lifted : k ≤ last_stream → (file vs : List ℕ) {c : Counts} {row : List ℕ} → 0 ≡ first_of (day_order k file (length vs)) →
+      ◌≡◌ {A = Day (List ℕ)} (record { counts = c; left = row }) (turned packed_stream (stream_day (stream_at m k) (blocks_of file) vs)) →
+      GivesDay (mapped (turned packed) (day_of m k file vs)) words (Ok c) (set words k row)
+  day_lifted low file vs {c} {row} clear is =
+      let d = stream_day (stream_at m k) (blocks_of file) vs in
+      let within : k < length m.streams = omega (arith, sound.count) in
+      let day : day_of m k file vs ≡ accepted (turned (with_stream m k) d) = rw (← clear, day_on_meter m k low within (blocks_of file) vs) in
+      rw day
+      (record {
+        counts = ap (λ (e : Day (List ℕ)). accepted e.counts) is;
+        stands =
+            ap (λ (e : Day (List ℕ)). set words k e.left) is ∙ ap (λ (w : List (List ℕ)). set w k (packed_stream d.left)) holds
+            ∙ sym (map-set packed_stream m.streams k d.left);
+      })
 
 -- what a call leaves of the words, where 13 refused it, and from what the row's call left of the row
 pub left_alone : (k : ℕ) (words : List (List ℕ)) (number : ℕ) → Leaves k words number words

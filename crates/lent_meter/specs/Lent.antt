@@ -1,10 +1,13 @@
 -- Words that hold a meter, and what a call on them gives.
-use Rattle.std.specs.Prelude.{◌≡◌, List, [], ℕ, ◌<◌, length, get_or}
+use Rattle.std.specs.Prelude.{◌≡◌, List, [], ℕ, ◌<◌, length, get_or, Result}
+use Rattle.records.specs.declared.refusal.Refusal.{Refusal}
 use Rattle.records.specs.Order.{Outcome, mapped}
 use Rattle.records.specs.Answers.{Returns}
+use Rattle.meter.specs.declared.day.Counts.{Counts}
 use Rattle.meter.specs.declared.Stream.{Stream}
 use Rattle.meter.specs.declared.Meter.{Meter}
 use Rattle.meter.specs.State.{SoundStream, Sound}
+use Rattle.meter.specs.Days.{Day, turned, GivesDay}
 use Rattle.lent_meter.specs.Words.{packed_stream, packed}
 
 -- a row holds a sound stream, and words hold a sound meter
@@ -24,6 +27,10 @@ pub record Lent (words : List (List ℕ)) : Type 0 where
 -- a call that may change the meter, on words: of every meter that they held, the number and the words afterwards are those of the call
 abbrev pub OnWords : (Meter → Outcome Meter) → List (List ℕ) → ℕ → List (List ℕ) → Type 0
 OnWords call before number after = (m : Meter) → Sound m → before ≡ packed m → Returns (mapped packed (call m)) before number after
+
+-- a day file on words: of every meter that they held, the answer and the words afterwards are those of the call
+abbrev pub DayOnWords : (Meter → Outcome (Day Meter)) → List (List ℕ) → Result Counts Refusal → List (List ℕ) → Type 0
+DayOnWords call before answer after = (m : Meter) → Sound m → before ≡ packed m → GivesDay (mapped (turned packed) (call m)) before answer after
 
 -- whatever the words are, such a call leaves the rows of the other streams as they were, and a refusal leaves all of them
 pub record Leaves (k : ℕ) (before : List (List ℕ)) (number : ℕ) (after : List (List ℕ)) : Type 0 where
@@ -45,3 +52,7 @@ OnRow call before number after = (s : Stream) → SoundStream s → before ≡ p
 -- a refusal leaves a row, whatever its words are
 abbrev pub LeavesRow : List ℕ → ℕ → List ℕ → Type 0
 LeavesRow before number after = (number ≡ 0 → ⊥) → after ≡ before
+
+-- a day file on a row, where no number refuses it
+abbrev pub DayOnRow : (Stream → Day Stream) → List ℕ → Counts → List ℕ → Type 0
+DayOnRow call before counts after = (s : Stream) → SoundStream s → before ≡ packed_stream s → record { counts = counts; left = after } ≡ turned packed_stream (call s)

@@ -1,5 +1,5 @@
 -- A meter as the words that a caller lends: a row of 16 words for each of the 16 streams.
-use Rattle.std.specs.Prelude.{List, [], ◌∷◌, map, ℕ, ◌+◌, get_or, set, Option, Some, None}
+use Rattle.std.specs.Prelude.{List, [], ◌∷◌, map, ℕ, zero, suc, ◌+◌, get_or, set, Option, Some, None}
 use Rattle.properties.specs.Chain.{Six}
 use Rattle.properties.specs.Answers.{numbers, quantities}
 use Rattle.meter.specs.declared.Gas.{Gas}
@@ -63,6 +63,14 @@ totals_in row =
       inferior = record { whole = get_or row 12 0; rest = get_or row 13 0 };
       mass = record { whole = get_or row 14 0; rest = get_or row 15 0 };
     }
+
+-- the stream that a row holds: with 0 in its first word it has no analysis
+abbrev pub analysis_in : ℕ → List ℕ → Option Gas
+analysis_in zero row = None
+analysis_in (suc n) row = Some (gas_in row)
+
+abbrev pub stream_in : List ℕ → Stream
+stream_in row = record { analysis = analysis_in (get_or row 0 0) row; totals = totals_in row }
 
 -- a row with words in it from the i-th on, every other word as it was
 abbrev pub words_from : List ℕ → ℕ → List ℕ → List ℕ

@@ -15,10 +15,13 @@ ghost use Rattle.meter.specs.State.{fresh_meter};
 ghost use Rattle.meter.specs.Calls.{stream_analysis, stream_metering, analysis_of, metering_of, totals_of, mean_for};
 ghost use Rattle.meter.specs.Answers.{totals_meaning, mean_meaning};
 ghost use Rattle.lent_meter.specs.Words.{packed, packed_totals};
-ghost use Rattle.lent_meter.specs.Lent.{Lent, LentRow, OnWords, Leaves, OnMeter, OnRow, LeavesRow};
+ghost use Rattle.lent_meter.specs.Lent.{Lent, LentRow, OnWords, Leaves, OnMeter, OnRow, LeavesRow, DayOnWords, DayOnRow};
+ghost use Rattle.day_file.specs.Format.{blocks_of};
+ghost use Rattle.meter.specs.Days.{stream_day, day_of};
 ghost use Rattle.lent_meter.specs.Check.{Tells};
 
-use meter::{Energy, Gas, StreamTotals};
+use day_file::DayFile;
+use meter::{Counts, Energy, Gas, StreamTotals};
 use properties::quantities::CalorificValue;
 use records::{Record, Refusal};
 use words::Row;
@@ -94,6 +97,32 @@ pub fn metering(words: &mut Words, stream: usize, volume: u64) -> Result<(), Ref
 {
     meter::check_stream(stream)?;
     metering_row(&mut words[stream], volume)
+}
+
+// The row after a day file: its stream takes the blocks and the volumes.
+fn day_row(row: &mut Row, day: &DayFile, volumes: &[u64]) -> Counts
+    requires { LentRow row.old }
+    ensures { DayOnRow (λ (s : Stream). stream_day s (blocks_of day.now.file.now) volumes.now) row.old result row.new }
+{
+    let mut stream = words::stream_in(row);
+    let counts = stream.day(day, volumes);
+    *row = words::row_of(&stream);
+    counts
+}
+
+// A stream takes the analyses and the volumes of a day file, one volume for each block.
+pub fn day(
+    words: &mut Words,
+    stream: usize,
+    file: &[u8],
+    volumes: &[u64],
+) -> Result<Counts, Refusal>
+    requires { Lent words.old }
+    ensures on_words { DayOnWords (λ (m : Meter). day_of m stream file.now volumes.now) words.old result words.new }
+    ensures leaves { Leaves stream words.old (number_in result) words.new }
+{
+    let day = meter::check_day(stream, file, volumes.len())?;
+    Ok(day_row(&mut words[stream], &day, volumes))
 }
 
 // The volume, the energies and the mass of a stream.

@@ -1,11 +1,12 @@
 // The words of a stream, read and written.
-ghost use Rattle.std.specs.Prelude.{◌≡◌};
+ghost use Rattle.std.specs.Prelude.{◌≡◌, get_or};
 ghost use Rattle.properties.specs.Answers.{numbers};
 ghost use Rattle.properties.specs.Quantities.{Bounded};
-ghost use Rattle.lent_meter.specs.Words.{totals_in, six_in, with_gas_words, with_totals_words};
+ghost use Rattle.lent_meter.specs.Words.{packed_stream, totals_in, six_in, gas_in, analysis_in, stream_in, with_gas_words, with_totals_words};
+ghost use Rattle.lent_meter.specs.Lent.{LentRow};
 ghost use Rattle.lent_meter.specs.Check.{words_differ};
 
-use meter::{Gas, Register, StreamTotals};
+use meter::{Gas, Register, Stream, StreamTotals};
 use properties::Properties;
 use properties::quantities::{
     CalorificValue, CompressionFactor, Density, RelativeDensity, WobbeIndex,
@@ -122,4 +123,50 @@ pub fn put_gas(row: &mut Row, gas: Gas)
     row[RHO] = p.rho.value();
     row[D] = p.d.value();
     row[W] = p.w.value();
+}
+
+// The gas in a row that has one.
+fn gas_in(row: &Row) -> Gas
+    requires { LentRow row.now × (get_or row.now 0 0 ≡ 0 → ⊥) }
+    ensures { result ≡ gas_in row.now }
+{
+    Gas {
+        pair: Pair {
+            combustion: row[COMBUSTION] as u8,
+            metering: row[METERING] as u8,
+        },
+        properties: properties_in(row),
+    }
+}
+
+// The analysis in a row.
+fn analysis_in(row: &Row) -> Option<Gas>
+    requires { LentRow row.now }
+    ensures { result ≡ analysis_in (get_or row.now 0 0) row.now }
+{
+    if row[ANALYSED] == 0 {
+        None
+    } else {
+        Some(gas_in(row))
+    }
+}
+
+// The stream in a row.
+pub fn stream_in(row: &Row) -> Stream
+    requires { LentRow row.now }
+    ensures { result ≡ stream_in row.now }
+{
+    Stream::from_parts(analysis_in(row), totals_in(row))
+}
+
+// A stream as a row.
+pub fn row_of(stream: &Stream) -> Row
+    ensures { result ≡ packed_stream stream.now }
+{
+    let mut row = [0u64; WORDS];
+    if let Some(gas) = stream.in_force() {
+        put_gas(&mut row, gas);
+    }
+    put_totals(&mut row, stream.totals());
+    row
 }

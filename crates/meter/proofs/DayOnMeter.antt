@@ -15,12 +15,8 @@ use Rattle.meter.specs.declared.Meter.{Meter}
 use Rattle.meter.specs.State.{last_stream, fresh_stream, stream_at, with_stream}
 use Rattle.meter.specs.Conditions.{stream_analysis_order, stream_metering_order, day_order}
 use Rattle.meter.specs.Calls.{analysed, metered, stream_analysis, stream_metering, analysis_of, metering_of}
-use Rattle.meter.specs.Days.{Day, one_of, with_calls, day_by, stream_day, meter_day, day_of, counts_in, left_in, GivesDay}
+use Rattle.meter.specs.Days.{Day, turned, one_of, with_calls, day_by, stream_day, meter_day, day_of, counts_in, left_in, GivesDay}
 use Rattle.meter.proofs.Orders.{not_above}
-
--- a day with what it leaves turned into another thing
-abbrev pub turned : {A B : Type 0} → (A → B) → Day A → Day B
-turned f d = record { counts = d.counts; left = f d.left }
 
 one_of_mapped : {A B : Type 0} (f : A → B) (o : Outcome A) → one_of (mapped f o) ≡ one_of o
 one_of_mapped f (refused n) = refl
@@ -72,5 +68,5 @@ module _ (m : Meter) (k : ℕ) (low : k ≤ last_stream) (within : k < length m.
       ◌≡◌ {A = Day Stream} (record { counts = c; left = s }) (stream_day (stream_at m k) (blocks_of file) vs) → GivesDay (day_of m k file vs) m (Ok c) (with_stream m k s)
   day_gives file vs {c} {s} clear is =
       let day : day_of m k file vs ≡ accepted (turned (with_stream m k) (record { counts = c; left = s })) =
-          rw (← clear, day_on_meter (blocks_of file) vs, ← is) in
+      rw (← clear, day_on_meter (blocks_of file) vs, ← is) in
       record { counts = sym (ap counts_in day); stands = sym (ap (λ (o : Outcome (Day Meter)). otherwise m (left_in o)) day) }

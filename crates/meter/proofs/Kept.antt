@@ -136,9 +136,11 @@ module _ (k : ℕ) (P : Meter → Type 0) (analysis : (m : Meter) (bs : List ℕ
       go zero = by_day (blocks_of file) vs m h
       go (suc n) = h
 
+pub sound_after_day : (k : ℕ) (file vs : List ℕ) (m : Meter) → Sound m → Sound (otherwise m (left_in (day_of m k file vs)))
+sound_after_day k file vs m h = after_day k Sound (λ n bs. sound_after_analysis k bs n) (λ n v. sound_after_metering k v n) file vs m h
+
 pub day_keeps : DayKeeps
-day_keeps m k file vs r after gives h =
-    subst Sound (sym gives.stands) (after_day k Sound (λ n bs. sound_after_analysis k bs n) (λ n v. sound_after_metering k v n) file vs m h)
+day_keeps m k file vs r after gives h = subst Sound (sym gives.stands) (sound_after_day k file vs m h)
 
 pub day_leaves_others : DayLeavesOthers
 day_leaves_others m k file vs r after gives j e =

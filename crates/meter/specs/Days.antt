@@ -41,6 +41,10 @@ module _ {A : Type 0} where
       with_calls (analysis a b) (metering (otherwise a (analysis a b)) v)
       (day_by analysis metering (otherwise (otherwise a (analysis a b)) (metering (otherwise a (analysis a b)) v)) bs vs)
 
+-- a day with what it leaves turned into another thing
+abbrev pub turned : {A B : Type 0} → (A → B) → Day A → Day B
+turned f d = record { counts = d.counts; left = f d.left }
+
 -- on a stream, where 13 does not hold; and on the stream k of a meter
 abbrev pub stream_day : Stream → List (List ℕ) → List ℕ → Day Stream
 stream_day = day_by stream_analysis stream_metering

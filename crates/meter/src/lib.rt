@@ -9,7 +9,7 @@ ghost use Rattle.records.specs.Refusals.{number_in};
 ghost use Rattle.records.specs.Answers.{Gives};
 ghost use Rattle.properties.specs.Quantities.{Bounded};
 ghost use Rattle.properties.specs.Answers.{numbers};
-ghost use Rattle.meter.specs.State.{last_stream, most_volume, most_total, fresh_meter, SoundEnergy, SoundTotals};
+ghost use Rattle.meter.specs.State.{last_stream, most_volume, most_total, fresh_meter, SoundEnergy, SoundTotals, SoundStream};
 ghost use Rattle.meter.specs.Conditions.{pair_differs, totals_order};
 ghost use Rattle.meter.specs.Calls.{booked, added, stream_analysis, stream_metering, analysis_of, metering_of, totals_of, mean_over, mean_for, register_of};
 ghost use Rattle.meter.specs.Days.{stream_day, day_of, GivesDay};
@@ -19,7 +19,6 @@ ghost use Rattle.day_file.specs.Format.{blocks_of};
 mod day;
 
 pub use day::{Counts, check_day};
-
 use day_file::DayFile;
 use properties::Properties;
 use properties::quantities::CalorificValue;
@@ -168,6 +167,28 @@ impl StreamTotals {
 }
 
 impl Stream {
+    // A stream from its parts.
+    pub fn from_parts(analysis: Option<Gas>, totals: StreamTotals) -> Stream
+        requires { SoundStream (record { analysis = analysis; totals = totals }) }
+        ensures { result ≡ record { analysis = analysis; totals = totals } }
+    {
+        Stream { analysis, totals }
+    }
+
+    // The analysis in force.
+    pub fn in_force(&self) -> Option<Gas>
+        ensures { result ≡ self.now.analysis }
+    {
+        self.analysis
+    }
+
+    // The totals.
+    pub fn totals(&self) -> StreamTotals
+        ensures { result ≡ self.now.totals }
+    {
+        self.totals
+    }
+
     // 14: the pair is not the stream's.
     fn pair_differs(&self, pair: Pair) -> bool
         ensures { result ≡ pair_differs self.now.analysis pair.combustion pair.metering }

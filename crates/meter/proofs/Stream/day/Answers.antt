@@ -20,8 +20,12 @@ overflow_add-counts c =
 pub overflow_add-counts-in-loop-volume : goal.overflow_add-counts-in-loop-volume
 overflow_add-counts-in-loop-volume c =
     let vs = c.args.volumes.now in
-    omega (arith, counts_fit stream_analysis stream_metering _ _ c.loop-volume.invariant (drop_more vs c.loop-volume.volume-index 0 (omega arith)), c.from-in-loop-volume.ensures,
-    byte_at_most c.is_ok-in-loop-volume.result)
+    omega (
+      arith,
+      counts_fit stream_analysis stream_metering _ _ c.loop-volume.invariant (drop_more vs c.loop-volume.volume-index 0 (omega arith)),
+      c.from-in-loop-volume.ensures,
+      byte_at_most c.is_ok-in-loop-volume.result,
+    )
 
 pub loop-volume-preserved : goal.loop-volume-preserved
 loop-volume-preserved c =
