@@ -79,7 +79,15 @@ BlockIsPart =
     (file b : List ℕ) (at next : ℕ) → next_of file at ≡ accepted (offset next) → block_of file at ≡ Some b →
     file ≡ take (at + 2) file ++ (b ++ drop next file)
 
--- a file made from any list of blocks, each of at most 65,535 bytes, is walked back to that list
+-- neither 21 nor 23 refuses a file made from any list of blocks, each of at most 65,535 bytes, and its blocks are that list
+pub record GivenBack (bs : List (List ℕ)) : Type 0 where
+  pub blocks : blocks_of (file_of bs) ≡ bs
+  pub number : first_of (file_order (file_of bs)) ≡ 0
+
+abbrev pub MadeGivesBack : Type 0
+MadeGivesBack = (bs : List (List ℕ)) → EachFits bs → GivenBack bs
+
+-- it is walked back to that list
 abbrev pub MadeIsWalkedBack : Type 0
 MadeIsWalkedBack = (bs : List (List ℕ)) → EachFits bs → Walked (file_of bs) first_block bs 0
 
