@@ -2,7 +2,7 @@
 use mathlib.Core.Path.{◌≡◌, refl, sym, ap, ◌∙◌}
 use mathlib.Core.Bool.{◌&&◌, ◌||◌, false, not}
 use mathlib.Core.List.{List, [], ◌∷◌, ◌++◌, append_assoc, append-nil}
-use Prim.Native.Nat.{ℕ, ◌+◌, ◌*◌, ◌/◌, ◌%◌, ◌≤◌}
+use Prim.Native.Nat.{ℕ, zero, suc, ◌+◌, ◌*◌, ◌/◌, ◌%◌, ◌≤◌}
 use native.Mathlib.Nat.{mod-add-div}
 use native.Mathlib.Omega.{arith}
 use lib.Dec.{eqb, ltb}
@@ -11,8 +11,8 @@ use Rattle.std.proofs.lemmas.List.{length-append, length-take-le, take_at, drop_
 use Rattle.std.proofs.lemmas.Bool.{ltb-false, le-ltb, eqb-true, not-false, and_parts, or_parts, or_from}
 use Rattle.records.specs.Format.{Bytes}
 use Rattle.records.proofs.OrderLaws.{unmet}
-use Rattle.day_file.specs.Format.{version, first_block, has_mark, version_in, no_day_file, length_in, block_in, after_block, no_block, Split, split_all, blocks_of, file_order, block_bytes, blocks_bytes, head_bytes, file_of}
-use Rattle.day_file.specs.Walk.{MadeGivesBack, MadeIsWalkedBack, FileIsMadeOfBlocks}
+use Rattle.day_file.specs.Format.{version, first_block, has_mark, version_in, no_day_file, length_in, block_in, after_block, no_block, Split, split_all, blocks_of, file_order, block_bytes, blocks_bytes, head_bytes, file_of, most_length, EachFits}
+use Rattle.day_file.specs.Walk.{MadeGivesBack, MadeIsBytes, MadeIsWalkedBack, FileIsMadeOfBlocks}
 use Rattle.day_file.proofs.Splits.{whole_block, block_and_rest, by_blocks, split_ended, split_begun}
 use Rattle.day_file.proofs.Walks.{walk_gives_blocks}
 
@@ -52,6 +52,31 @@ made_gives_back bs fits =
 pub made_is_walked_back : MadeIsWalkedBack
 made_is_walked_back bs fits =
     let m = made_gives_back bs fits in rw (m.number, day_file_made bs, m.blocks) at (walk_gives_blocks (file_of bs))
+
+-- bytes after bytes
+bytes_append : (xs ys : List ℕ) → Bytes xs → Bytes ys → Bytes (xs ++ ys)
+bytes_append [] ys a b i = b i
+bytes_append (x ∷ xs) ys a b zero = a zero
+bytes_append (x ∷ xs) ys a b (suc i) = bytes_append xs ys (λ k. a (suc k)) b i
+
+-- a length of 16 bits takes two
+bytes_block : (b : List ℕ) → length b ≤ most_length → Bytes b → Bytes (block_bytes b)
+bytes_block b fits h zero = omega arith
+bytes_block b fits h (suc zero) = omega arith
+bytes_block b fits h (suc (suc i)) = h i
+
+bytes_blocks : (bs : List (List ℕ)) → EachFits bs → ((i : ℕ) → Bytes (get_or bs i [])) → Bytes (blocks_bytes bs)
+bytes_blocks [] fits h = λ i. omega arith
+bytes_blocks (b ∷ bs) fits h =
+    bytes_append (block_bytes b) (blocks_bytes bs) (bytes_block b (fits 0) (h 0)) (bytes_blocks bs (λ i. fits (suc i)) (λ i. h (suc i)))
+
+pub made_is_bytes : MadeIsBytes
+made_is_bytes bs fits h zero = omega arith
+made_is_bytes bs fits h (suc zero) = omega arith
+made_is_bytes bs fits h (suc (suc zero)) = omega arith
+made_is_bytes bs fits h (suc (suc (suc zero))) = omega arith
+made_is_bytes bs fits h (suc (suc (suc (suc zero)))) = omega arith
+made_is_bytes bs fits h (suc (suc (suc (suc (suc i))))) = bytes_blocks bs fits h i
 
 -- bytes with a whole block at their front begin with the bytes of that block
 block_again : (bs : List ℕ) → Bytes bs → no_block bs ≡ false → block_bytes (block_in bs) ++ after_block bs ≡ bs
