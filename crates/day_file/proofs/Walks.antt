@@ -1,20 +1,20 @@
 -- The walk from the first block by the two calls.
 use mathlib.Core.Path.{◌≡◌, refl, sym, ap, subst, ◌∙◌}
 use mathlib.Core.Bool.{Bool, true, false, cond}
-use mathlib.Core.List.{List, []}
+use mathlib.Core.List.{List, [], ◌++◌}
 use mathlib.Core.Logic.{⊎_elim}
 use Prim.Native.Nat.{ℕ, ◌+◌, ◌≤◌, ◌<◌}
 use native.Mathlib.Nat.{add_assoc}
 use native.Mathlib.Omega.{arith}
 use lib.Dec.{eqb, ltb}
-use lib.ListN.{length, drop}
+use lib.ListN.{length, take, drop}
 use Rattle.std.specs.Prelude.{Some}
-use Rattle.std.proofs.lemmas.List.{length-drop, drop-drop, take-append-drop}
-use Rattle.std.proofs.lemmas.Bool.{le-ltb, lt-ltb, eq-eqb, ne_eqb, ltb-false, or_from, or_parts, cases_Bool, cases_lt}
+use Rattle.std.proofs.lemmas.List.{length-drop, length-take-le, drop-drop, take-append-drop}
+use Rattle.std.proofs.lemmas.Bool.{le-ltb, lt-ltb, eq-eqb, eqb-false, ne_eqb, ltb-false, or_from, or_parts, cases_Bool, cases_lt}
 use Rattle.records.specs.Order.{Outcome, refused, accepted, first_of, mapped}
-use Rattle.records.proofs.OrderLaws.{decided_accepted}
+use Rattle.records.proofs.OrderLaws.{decided_accepted, unmet}
 use Rattle.day_file.specs.Format.{first_block, no_day_file, length_in, block_in, after_block, no_block, Split, split_all, blocks_of, file_order}
-use Rattle.day_file.specs.Walk.{offset_outside, walk_order, Place, block, end, place_in, place_of, offset, next_after, next_of, bytes_where, block_of, Walked, ends, stops, visits, WalkGivesBlocks, SameWalk, OneWalk, BlockIsPart}
+use Rattle.day_file.specs.Walk.{offset_outside, cut_at, walk_order, Place, block, end, place_in, place_of, offset, next_after, next_of, bytes_where, block_of, Walked, ends, stops, visits, WalkGivesBlocks, SameWalk, OneWalk, BlockIsPart, EndsAt, BlockEndsAtNext}
 use Rattle.day_file.proofs.Splits.{whole_block, by_blocks, ended, split_ended, split_begun, block_and_rest}
 
 -- the offset after a block
@@ -125,28 +125,61 @@ same_walk file at bs n (visits _ next b ds k e f v) cs m (visits _ after c es l 
 pub one_walk : OneWalk
 one_walk file at bs cs n m v w = same_walk file at bs n v cs m w
 
--- what the two calls give is the block that stands there
+-- where the two calls give a block, it is what stands at the offset
+placed : (file b : List ℕ) (at next : ℕ) → next_of file at ≡ accepted (offset next) → block_of file at ≡ Some b → place_of file at ≡ accepted (block b next)
+placed file b at next = go (place_of file at)
+  where
+    go : (p : Outcome Place) → mapped next_after p ≡ accepted (offset next) → bytes_where p ≡ Some b → p ≡ accepted (block b next)
+    go (refused n) e f = cc
+    go (accepted end) e f = cc
+    go (accepted (block c n)) e f = cc
+
+-- a whole block, and the offset after it
 record StandsAt (file b : List ℕ) (at next : ℕ) : Type 0 where
   block : b ≡ block_in (drop at file)
-  rest : drop next file ≡ after_block (drop at file)
+  after : next ≡ next_in file at
+  whole : no_block (drop at file) ≡ false
+  inside : at ≤ length file
 
-stands_at : (file b : List ℕ) (at next : ℕ) → next_of file at ≡ accepted (offset next) → block_of file at ≡ Some b → StandsAt file b at next
-stands_at file b at next = go (place_of file at) refl
-  where
-    in_place : (x : Bool) → cond x end (block (block_in (drop at file)) (next_in file at)) ≡ block b next → StandsAt file b at next
-    in_place true e = record { block = cc; rest = cc }
-    in_place false e =
-        let n : next ≡ next_in file at = cc in
-        record { block = cc; rest = ap (λ (i : ℕ). drop i file) n ∙ rest_at file at }
+module _ (file b : List ℕ) (at next : ℕ) (p : place_of file at ≡ accepted (block b next)) where
+  passed : (first_of (walk_order file at) ≡ 0) × (place_in file at ≡ block b next)
+  passed = decided_accepted (first_of (walk_order file at)) (place_in file at) (block b next) p
 
-    go : (p : Outcome Place) → place_of file at ≡ p → mapped next_after p ≡ accepted (offset next) → bytes_where p ≡ Some b → StandsAt file b at next
-    go (refused n) is e f = in_place true cc
-    go (accepted end) is e f = in_place true cc
-    go (accepted (block c n)) is e f =
-        let one : block c n ≡ block b next = cc in
-        in_place (eqb at (length file)) ((decided_accepted (first_of (walk_order file at)) (place_in file at) (block c n) is).1 ∙ one)
+  before_end : offset_outside file at ≡ false → at ≤ length file
+  before_end e = ltb-false (length file) at (or_parts (ltb at first_block) _ e).1
+
+  uncut : cut_at file at ≡ false → at < length file → no_block (drop at file) ≡ false
+  uncut e l = rw (lt-ltb at (length file) l) at e
+
+  stands_at : StandsAt file b at next
+  stands_at =
+      let unmet_at = unmet (walk_order file at) tt passed.0 in
+      go (eqb at (length file)) refl passed.1 (before_end (unmet_at 22)) (uncut (unmet_at 23))
+    where
+      go : (x : Bool) → eqb at (length file) ≡ x → cond x end (block (block_in (drop at file)) (next_in file at)) ≡ block b next
+          → at ≤ length file → (at < length file → no_block (drop at file) ≡ false) → StandsAt file b at next
+      go true is e inside whole = absurd cc
+      go false is e inside whole =
+          let off : at ≡ length file → ⊥ = eqb-false at (length file) is in
+          record { block = cc; after = cc; whole = whole (omega arith); inside = inside }
+
+-- of a block that is handed back
+module _ (file b : List ℕ) (at next : ℕ) (e : next_of file at ≡ accepted (offset next)) (f : block_of file at ≡ Some b) where
+  handed : StandsAt file b at next
+  handed = stands_at file b at next (placed file b at next e f)
+
+  part : file ≡ take (at + 2) file ++ (b ++ drop next file)
+  part = rw (handed.block, handed.after, rest_at file at, block_and_rest (drop at file), drop-drop 2 at file, take-append-drop (at + 2) file)
+
+  ends_at : EndsAt file b at next
+  ends_at =
+      let d = drop at file in
+      let fits = whole_block d handed.whole in
+      let n = length-take-le (length_in d) (drop 2 d) (omega (arith, length-drop 2 d)) in
+      record { after = omega (arith, ap length handed.block, handed.after); within = omega (arith, handed.after, handed.inside, length-drop at file) }
 
 pub block_is_part : BlockIsPart
-block_is_part file b at next e f =
-    let s = stands_at file b at next e f in
-    rw (s.block, s.rest, block_and_rest (drop at file), drop-drop 2 at file, take-append-drop (at + 2) file)
+block_is_part = part
+
+pub block_ends_at_next : BlockEndsAtNext
+block_ends_at_next = ends_at
