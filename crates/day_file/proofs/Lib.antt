@@ -1,2 +1,4 @@
 pub mod Splits
 pub mod Counting
+pub mod Walks
+pub mod Made

@@ -1,13 +1,14 @@
 -- The whole blocks at the front of bytes, one by one.
-use mathlib.Core.Path.{◌≡◌, refl, ap, ◌∙◌}
+use mathlib.Core.Path.{◌≡◌, refl, sym, ap, ◌∙◌}
 use mathlib.Core.Bool.{Bool, true, false, cond}
-use mathlib.Core.List.{List, [], ◌∷◌}
+use mathlib.Core.List.{List, [], ◌∷◌, ◌++◌}
+use mathlib.Core.Logic.{⊎_elim}
 use Prim.Native.Nat.{ℕ, zero, suc, ◌+◌, ◌≤◌, ◌<◌}
 use native.Mathlib.Omega.{arith}
-use lib.ListN.{length}
+use lib.ListN.{length, drop}
 use Rattle.std.specs.Prelude.{Option, Some, None}
-use Rattle.std.proofs.lemmas.List.{length-drop}
-use Rattle.std.proofs.lemmas.Bool.{ltb-false, lt-ltb, or_left, or_parts}
+use Rattle.std.proofs.lemmas.List.{length-drop, drop-drop, take-append-drop}
+use Rattle.std.proofs.lemmas.Bool.{ltb-false, lt-ltb, or_left, or_parts, cases_Bool}
 use Rattle.day_file.specs.Format.{length_in, block_in, after_block, no_block, Split, split, split_all}
 use Rattle.day_file.specs.Answers.{front_of}
 
@@ -24,6 +25,22 @@ no_block_of_short bs h = or_left _ _ (lt-ltb (length bs) 2 h)
 -- a block at the front takes two bytes and those that they count
 pub whole_block : (bs : List ℕ) → no_block bs ≡ false → 2 + length_in bs ≤ length bs
 whole_block bs e = ltb-false (length bs) (2 + length_in bs) (or_parts _ _ e).1
+
+-- its bytes, and then those after it, are all but the two length bytes
+pub block_and_rest : (bs : List ℕ) → block_in bs ++ after_block bs ≡ drop 2 bs
+block_and_rest bs = ap (λ (t : List ℕ). block_in bs ++ t) (sym (drop-drop (length_in bs) 2 bs)) ∙ take-append-drop (length_in bs) (drop 2 bs)
+
+-- what holds of bytes with no whole block at their front, and of bytes with one where it holds of those after it, holds of all bytes
+pub by_blocks : (P : List ℕ → Type 0) → ((bs : List ℕ) → no_block bs ≡ true → P bs)
+    → ((bs : List ℕ) → no_block bs ≡ false → P (after_block bs) → P bs) → (bs : List ℕ) → P bs
+by_blocks P none some bs = go (length bs) bs (omega arith)
+  where
+    go : (n : ℕ) (bs : List ℕ) → length bs ≤ n → P bs
+    go zero bs few = none bs (no_block_of_short bs (omega arith))
+    go (suc n) bs few =
+        ⊎_elim (none bs)
+        (λ (e : no_block bs ≡ false). some bs e (go n (after_block bs) (omega (arith, whole_block bs e, length-drop (2 + length_in bs) bs))))
+        (cases_Bool (no_block bs))
 
 -- any number of steps that is not below the number of bytes does
 enough : (n m : ℕ) (bs : List ℕ) → length bs ≤ n → length bs ≤ m → split n bs ≡ split m bs

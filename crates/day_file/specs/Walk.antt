@@ -1,6 +1,6 @@
 -- The walk of a day file: what stands at an offset. And that the walk from the first block visits each block of the file once, in order, and
 -- ends.
-use Rattle.std.specs.Prelude.{◌≡◌, Bool, ◌&&◌, ◌||◌, cond, List, [], ◌∷◌, ◌++◌, ℕ, ◌+◌, eqb, ltb, length, take, drop, Option, Some, None}
+use Rattle.std.specs.Prelude.{◌≡◌, Bool, ◌&&◌, ◌||◌, cond, List, [], ◌∷◌, ◌++◌, ℕ, ◌+◌, ◌≤◌, eqb, ltb, length, get_or, take, drop, Option, Some, None}
 use Rattle.records.specs.Order.{Order, Outcome, refused, accepted, first_of, decided, mapped}
 use Rattle.records.specs.Format.{Bytes}
 use Rattle.day_file.specs.Format.{first_block, no_day_file, length_in, block_in, no_block, blocks_of, file_order, file_of, EachFits}
@@ -79,7 +79,27 @@ BlockIsPart =
     (file b : List ℕ) (at next : ℕ) → next_of file at ≡ accepted (offset next) → block_of file at ≡ Some b →
     file ≡ take (at + 2) file ++ (b ++ drop next file)
 
--- a file made from any list of blocks, each of at most 65,535 bytes, is walked back to that list
+-- it lies in the file, and ends at that offset
+pub record EndsAt (file b : List ℕ) (at next : ℕ) : Type 0 where
+  pub after : at + 2 + length b ≡ next
+  pub within : next ≤ length file
+
+abbrev pub BlockEndsAtNext : Type 0
+BlockEndsAtNext = (file b : List ℕ) (at next : ℕ) → next_of file at ≡ accepted (offset next) → block_of file at ≡ Some b → EndsAt file b at next
+
+-- neither 21 nor 23 refuses a file made from any list of blocks, each of at most 65,535 bytes, and its blocks are that list
+pub record GivenBack (bs : List (List ℕ)) : Type 0 where
+  pub blocks : blocks_of (file_of bs) ≡ bs
+  pub number : first_of (file_order (file_of bs)) ≡ 0
+
+abbrev pub MadeGivesBack : Type 0
+MadeGivesBack = (bs : List (List ℕ)) → EachFits bs → GivenBack bs
+
+-- where its blocks are bytes, so is the file
+abbrev pub MadeIsBytes : Type 0
+MadeIsBytes = (bs : List (List ℕ)) → EachFits bs → ((i : ℕ) → Bytes (get_or bs i [])) → Bytes (file_of bs)
+
+-- it is walked back to that list
 abbrev pub MadeIsWalkedBack : Type 0
 MadeIsWalkedBack = (bs : List (List ℕ)) → EachFits bs → Walked (file_of bs) first_block bs 0
 
