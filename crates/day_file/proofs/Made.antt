@@ -2,8 +2,7 @@
 use mathlib.Core.Path.{◌≡◌, refl, sym, ap, ◌∙◌}
 use mathlib.Core.Bool.{◌&&◌, ◌||◌, false, not}
 use mathlib.Core.List.{List, [], ◌∷◌, ◌++◌, append_assoc, append-nil}
-use Prim.Native.Nat.{ℕ, zero, suc, ◌+◌, ◌*◌, ◌/◌, ◌%◌, ◌≤◌}
-use native.Mathlib.Nat.{mod-add-div}
+use Prim.Native.Nat.{ℕ, suc, ◌+◌, ◌*◌, ◌/◌, ◌%◌, ◌≤◌}
 use native.Mathlib.Omega.{arith}
 use lib.Dec.{eqb, ltb}
 use lib.ListN.{length, get_or, drop}
@@ -12,17 +11,17 @@ use Rattle.std.proofs.lemmas.Bool.{ltb-false, le-ltb, eqb-true, not-false, and_p
 use Rattle.records.specs.Format.{Bytes}
 use Rattle.records.proofs.OrderLaws.{unmet}
 use Rattle.day_file.specs.Format.{version, first_block, has_mark, version_in, no_day_file, length_in, block_in, after_block, no_block, Split, split_all, blocks_of, file_order, block_bytes, blocks_bytes, head_bytes, file_of, most_length, EachFits}
-use Rattle.day_file.specs.Walk.{MadeGivesBack, MadeIsBytes, MadeIsWalkedBack, FileIsMadeOfBlocks}
+use Rattle.day_file.specs.Walk.{MadeGivesBack, MadeIsWalkedBack, FileIsMadeOfBlocks}
 use Rattle.day_file.proofs.Splits.{whole_block, block_and_rest, by_blocks, split_ended, split_begun}
 use Rattle.day_file.proofs.Walks.{walk_gives_blocks}
 
 -- the bytes of a block, and others after it
-module _ (b rest : List ℕ) where
+module _ (b rest : List ℕ) (fits : length b ≤ most_length) where
   abbrev both : List ℕ
   both = block_bytes b ++ rest
 
   length_back : length_in both ≡ length b
-  length_back = mod-add-div (length b) 256
+  length_back = omega arith
 
   whole_back : no_block both ≡ false
   whole_back =
@@ -36,47 +35,22 @@ module _ (b rest : List ℕ) where
   rest_back = sym (drop-drop (length_in both) 2 both) ∙ drop_at b rest (length_in both) (sym length_back)
 
 -- of blocks one after the other, all are whole and nothing is left over
-split_back : (bs : List (List ℕ)) → split_all (blocks_bytes bs) ≡ record { blocks = bs; left = [] }
-split_back [] = split_ended [] refl
-split_back (b ∷ bs) =
-    split_begun (block_bytes b ++ blocks_bytes bs) (whole_back b (blocks_bytes bs))
-    ∙ rw (block_back b (blocks_bytes bs), rest_back b (blocks_bytes bs), split_back bs)
+split_back : (bs : List (List ℕ)) → EachFits bs → split_all (blocks_bytes bs) ≡ record { blocks = bs; left = [] }
+split_back [] fits = split_ended [] refl
+split_back (b ∷ bs) fits =
+    let more = blocks_bytes bs in
+    split_begun (block_bytes b ++ more) (whole_back b more (fits 0)) ∙ rw (block_back b more (fits 0), rest_back b more (fits 0), split_back bs (λ i. fits (suc i)))
 
 day_file_made : (bs : List (List ℕ)) → no_day_file (file_of bs) ≡ false
 day_file_made bs = rw (le-ltb (length (file_of bs)) first_block (omega arith))
 
 pub made_gives_back : MadeGivesBack
 made_gives_back bs fits =
-    let e = split_back bs in record { blocks = ap (λ (s : Split). s.blocks) e; number = rw (day_file_made bs, e) }
+    let e = split_back bs fits in record { blocks = ap (λ (s : Split). s.blocks) e; number = rw (day_file_made bs, e) }
 
 pub made_is_walked_back : MadeIsWalkedBack
 made_is_walked_back bs fits =
     let m = made_gives_back bs fits in rw (m.number, day_file_made bs, m.blocks) at (walk_gives_blocks (file_of bs))
-
--- bytes after bytes
-bytes_append : (xs ys : List ℕ) → Bytes xs → Bytes ys → Bytes (xs ++ ys)
-bytes_append [] ys a b i = b i
-bytes_append (x ∷ xs) ys a b zero = a zero
-bytes_append (x ∷ xs) ys a b (suc i) = bytes_append xs ys (λ k. a (suc k)) b i
-
--- a length of 16 bits takes two
-bytes_block : (b : List ℕ) → length b ≤ most_length → Bytes b → Bytes (block_bytes b)
-bytes_block b fits h zero = omega arith
-bytes_block b fits h (suc zero) = omega arith
-bytes_block b fits h (suc (suc i)) = h i
-
-bytes_blocks : (bs : List (List ℕ)) → EachFits bs → ((i : ℕ) → Bytes (get_or bs i [])) → Bytes (blocks_bytes bs)
-bytes_blocks [] fits h = λ i. omega arith
-bytes_blocks (b ∷ bs) fits h =
-    bytes_append (block_bytes b) (blocks_bytes bs) (bytes_block b (fits 0) (h 0)) (bytes_blocks bs (λ i. fits (suc i)) (λ i. h (suc i)))
-
-pub made_is_bytes : MadeIsBytes
-made_is_bytes bs fits h zero = omega arith
-made_is_bytes bs fits h (suc zero) = omega arith
-made_is_bytes bs fits h (suc (suc zero)) = omega arith
-made_is_bytes bs fits h (suc (suc (suc zero))) = omega arith
-made_is_bytes bs fits h (suc (suc (suc (suc zero)))) = omega arith
-made_is_bytes bs fits h (suc (suc (suc (suc (suc i))))) = bytes_blocks bs fits h i
 
 -- bytes with a whole block at their front begin with the bytes of that block
 block_again : (bs : List ℕ) → Bytes bs → no_block bs ≡ false → block_bytes (block_in bs) ++ after_block bs ≡ bs
@@ -84,7 +58,7 @@ block_again (x ∷ y ∷ rest) b e =
     let bs : List ℕ = x ∷ y ∷ rest in
     let n : length (block_in bs) ≡ length_in bs = length-take-le (length_in bs) rest (omega (arith, whole_block bs e)) in
     let low : length_in bs % 256 ≡ x = omega (arith, b 0) in
-    let high : length_in bs / 256 ≡ y = omega (arith, b 0) in
+    let high : length_in bs / 256 % 256 ≡ y = omega (arith, b 0, b 1) in
     rw (n, low, high, block_and_rest bs)
 block_again bs b e = absurd (omega (arith, whole_block bs e))
 

@@ -75,7 +75,7 @@ parsed_of file = decided (first_of (file_order file)) (blocks_of file)
 
 -- the bytes of a block, of blocks one after the other, and of a file
 abbrev pub block_bytes : List ℕ → List ℕ
-block_bytes b = length b % 256 ∷ length b / 256 ∷ b
+block_bytes b = length b % 256 ∷ length b / 256 % 256 ∷ b
 
 abbrev pub blocks_bytes : List (List ℕ) → List ℕ
 blocks_bytes [] = []

@@ -1,6 +1,6 @@
 -- The walk of a day file: what stands at an offset. And that the walk from the first block visits each block of the file once, in order, and
 -- ends.
-use Rattle.std.specs.Prelude.{◌≡◌, Bool, ◌&&◌, ◌||◌, cond, List, [], ◌∷◌, ◌++◌, ℕ, ◌+◌, ◌≤◌, eqb, ltb, length, get_or, take, drop, Option, Some, None}
+use Rattle.std.specs.Prelude.{◌≡◌, Bool, ◌&&◌, ◌||◌, cond, List, [], ◌∷◌, ◌++◌, ℕ, ◌+◌, ◌≤◌, eqb, ltb, length, take, drop, Option, Some, None}
 use Rattle.records.specs.Order.{Order, Outcome, refused, accepted, first_of, decided, mapped}
 use Rattle.records.specs.Format.{Bytes}
 use Rattle.day_file.specs.Format.{first_block, no_day_file, length_in, block_in, no_block, blocks_of, file_order, file_of, EachFits}
@@ -94,10 +94,6 @@ pub record GivenBack (bs : List (List ℕ)) : Type 0 where
 
 abbrev pub MadeGivesBack : Type 0
 MadeGivesBack = (bs : List (List ℕ)) → EachFits bs → GivenBack bs
-
--- where its blocks are bytes, so is the file
-abbrev pub MadeIsBytes : Type 0
-MadeIsBytes = (bs : List (List ℕ)) → EachFits bs → ((i : ℕ) → Bytes (get_or bs i [])) → Bytes (file_of bs)
 
 -- it is walked back to that list
 abbrev pub MadeIsWalkedBack : Type 0
