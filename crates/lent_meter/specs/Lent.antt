@@ -8,7 +8,7 @@ use Rattle.meter.specs.declared.Stream.{Stream}
 use Rattle.meter.specs.declared.Meter.{Meter}
 use Rattle.meter.specs.State.{SoundStream, Sound}
 use Rattle.meter.specs.Days.{Day, turned, GivesDay}
-use Rattle.lent_meter.specs.Words.{packed_stream, packed}
+use Rattle.lent_meter.specs.Words.{packed_stream, packed, packed_counts}
 
 -- a row holds a sound stream, and words hold a sound meter
 pub record LentRow (row : List ℕ) : Type 0 where
@@ -52,6 +52,15 @@ OnRow call before number after = (s : Stream) → SoundStream s → before ≡ p
 -- a refusal leaves a row, whatever its words are
 abbrev pub LeavesRow : List ℕ → ℕ → List ℕ → Type 0
 LeavesRow before number after = (number ≡ 0 → ⊥) → after ≡ before
+
+-- what a day leaves in the memory that is lent: the words, and the counts
+abbrev pub packed_day : Day Meter → List (List ℕ) × List ℕ
+packed_day d = (packed d.left, packed_counts d.counts)
+
+-- a day file on words with memory for its counts: the number, and both afterwards
+abbrev pub OnDay : (Meter → Outcome (Day Meter)) → List (List ℕ) → List ℕ → ℕ → List (List ℕ) → List ℕ → Type 0
+OnDay call before counts number after counted =
+    (m : Meter) → Sound m → before ≡ packed m → Returns (mapped packed_day (call m)) (before, counts) number (after, counted)
 
 -- a day file on a row, where no number refuses it
 abbrev pub DayOnRow : (Stream → Day Stream) → List ℕ → Counts → List ℕ → Type 0

@@ -2,6 +2,7 @@
 use Rattle.std.specs.Prelude.{List, [], ◌∷◌, map, ℕ, zero, suc, ◌+◌, get_or, set, Option, Some, None}
 use Rattle.properties.specs.Chain.{Six}
 use Rattle.properties.specs.Answers.{numbers, quantities}
+use Rattle.meter.specs.declared.day.Counts.{Counts}
 use Rattle.meter.specs.declared.Gas.{Gas}
 use Rattle.meter.specs.declared.StreamTotals.{StreamTotals}
 use Rattle.meter.specs.declared.Stream.{Stream}
@@ -47,6 +48,10 @@ packed_stream s = analysis_words s.analysis (packed_totals s.totals)
 
 abbrev pub packed : Meter → List (List ℕ)
 packed m = map packed_stream m.streams
+
+-- counts: how many analyses, and how many volumes, of a day file were accepted
+abbrev pub packed_counts : Counts → List ℕ
+packed_counts c = c.analyses ∷ c.volumes ∷ []
 
 -- the properties, the gas and the totals in a row
 abbrev pub six_in : List ℕ → Six

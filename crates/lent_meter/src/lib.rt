@@ -14,7 +14,7 @@ ghost use Rattle.meter.specs.declared.Stream.{Stream};
 ghost use Rattle.meter.specs.State.{fresh_meter};
 ghost use Rattle.meter.specs.Calls.{stream_analysis, stream_metering, analysis_of, metering_of, totals_of, mean_for};
 ghost use Rattle.meter.specs.Answers.{totals_meaning, mean_meaning};
-ghost use Rattle.lent_meter.specs.Words.{packed, packed_totals};
+ghost use Rattle.lent_meter.specs.Words.{packed, packed_totals, packed_counts};
 ghost use Rattle.lent_meter.specs.Lent.{Lent, LentRow, OnWords, Leaves, OnMeter, OnRow, LeavesRow, DayOnWords, DayOnRow};
 ghost use Rattle.day_file.specs.Format.{blocks_of};
 ghost use Rattle.meter.specs.Days.{stream_day, day_of};
@@ -123,6 +123,13 @@ pub fn day(
 {
     let day = meter::check_day(stream, file, volumes.len())?;
     Ok(day_row(&mut words[stream], &day, volumes))
+}
+
+// Counts as words, as C's struct has them.
+pub fn counts_words(counts: Counts) -> [u64; 2]
+    ensures { result ≡ packed_counts counts }
+{
+    [counts.analyses as u64, counts.volumes as u64]
 }
 
 // The volume, the energies and the mass of a stream.

@@ -1,15 +1,17 @@
 -- What the exported functions give, beside a number: what stands in the memory that the caller lent.
-use Rattle.std.specs.Prelude.{◌≡◌, List, [], ◌∷◌, ℕ}
+use Rattle.std.specs.Prelude.{◌≡◌, Bool, true, false, List, [], ◌∷◌, ℕ, ◌<◌, Option, Some, None}
 use Rattle.records.specs.declared.Analysis.{Analysis}
-use Rattle.records.specs.Order.{Outcome, refused}
+use Rattle.records.specs.Order.{Outcome, refused, accepted}
 use Rattle.records.specs.Format.{Contents}
 use Rattle.records.specs.Calls.{reading_of, writing_of}
 use Rattle.properties.specs.Chain.{Six, properties_of}
 use Rattle.properties.specs.PerKilogram.{MassBasis, per_kilogram_of}
+use Rattle.day_file.specs.Walk.{Next, offset, at_end, next_of}
 use Rattle.meter.specs.declared.Register.{Register}
 use Rattle.meter.specs.declared.Meter.{Meter}
 use Rattle.meter.specs.State.{stream_at}
 use Rattle.meter.specs.Calls.{analysis_of, metering_of, totals_of, mean_reading}
+use Rattle.meter.specs.Days.{day_of}
 
 module _ {A : Type 0} where
   -- 0 stands for no refusal
@@ -24,6 +26,8 @@ pub record ZeroSaysAccepted : Type 0 where
   pub writing : (k : Contents) (old : List ℕ) → NeverRefusedByZero (writing_of k old)
   pub analysis : (m : Meter) (k : ℕ) (bs : List ℕ) → NeverRefusedByZero (analysis_of m k bs)
   pub metering : (m : Meter) (k v : ℕ) → NeverRefusedByZero (metering_of m k v)
+  pub day : (m : Meter) (k : ℕ) (file vs : List ℕ) → NeverRefusedByZero (day_of m k file vs)
+  pub walk : (file : List ℕ) (at : ℕ) → NeverRefusedByZero (next_of file at)
   pub totals : (m : Meter) (k : ℕ) → NeverRefusedByZero (totals_of m k)
   -- the mean of either energy
   pub mean : (m : Meter) (k : ℕ) (e : Register) → NeverRefusedByZero (mean_reading k (stream_at m k) e)
@@ -35,6 +39,28 @@ in_order p = p.Z ∷ p.Hs ∷ p.Hi ∷ p.rho ∷ p.d ∷ p.W ∷ []
 -- the superior and the inferior value per kilogram
 abbrev pub per_kilogram_in_order : MassBasis → List ℕ
 per_kilogram_in_order v = v.superior ∷ v.inferior ∷ []
+
+-- the next offset in the place that a caller lends for it: 0 where the file has ended
+abbrev pub next_word : Next → ℕ
+next_word (offset n) = n
+next_word at_end = 0
+
+-- the offset after a block is not 0, so 0 says that the file has ended
+abbrev pub EndIsNoOffset : Type 0
+EndIsNoOffset = (file : List ℕ) (at next : ℕ) → next_of file at ≡ accepted (offset next) → 0 < next_word (offset next)
+
+abbrev pub is_some : Option (List ℕ) → Bool
+is_some None = false
+is_some (Some b) = true
+
+abbrev pub some_or : Option (List ℕ) → List ℕ → List ℕ
+some_or None other = other
+some_or (Some b) other = b
+
+-- a block in the place that a caller lends for it: true and the block, or false and what stood there
+pub record BlockPut (found : Option (List ℕ)) (before : List ℕ) (answer : Bool) (after : List ℕ) : Type 0 where
+  pub told : answer ≡ is_some found
+  pub stands : after ≡ some_or found before
 
 -- an analysis in the places that a caller lends for its parts
 abbrev pub analysis : ℕ → ℕ → ℕ → List ℕ → List ℕ → Analysis

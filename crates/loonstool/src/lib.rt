@@ -17,10 +17,14 @@ ghost use Rattle.meter.specs.declared.Meter.{Meter};
 ghost use Rattle.meter.specs.State.{fresh_meter};
 ghost use Rattle.meter.specs.Calls.{analysis_of, metering_of, totals_of, mean_of, mean_inferior_of};
 ghost use Rattle.lent_meter.specs.Words.{packed, packed_totals};
-ghost use Rattle.lent_meter.specs.Lent.{Lent, OnWords, Leaves, OnReading};
+ghost use Rattle.lent_meter.specs.Lent.{Lent, OnWords, Leaves, OnReading, OnDay};
 ghost use Rattle.lent_meter.specs.Check.{Tells};
-ghost use Rattle.loonstool.specs.Exports.{in_order, per_kilogram_in_order, analysis};
+ghost use Rattle.loonstool.specs.Exports.{in_order, per_kilogram_in_order, analysis, next_word, BlockPut};
+ghost use Rattle.day_file.specs.Walk.{next_of, block_of};
+ghost use Rattle.day_file.specs.Answers.{next};
+ghost use Rattle.meter.specs.Days.{day_of};
 
+use day_file::Next;
 use lent_meter::Words;
 use meter::Energy;
 use properties::{PerKilogram, Properties};
@@ -75,6 +79,24 @@ pub fn loonstool_meter_metering(meter: &mut Words, stream: usize, volume: u64) -
     ensures leaves { Leaves stream meter.old result meter.new }
 {
     number_in(&lent_meter::metering(meter, stream, volume))
+}
+
+// A stream takes the analyses and the volumes of a day file, one volume for each block; counts are how many of each were accepted.
+pub fn loonstool_meter_day(
+    meter: &mut Words,
+    stream: usize,
+    file: &[u8],
+    volumes: &[u64],
+    counts: &mut [u64; 2],
+) -> u8
+    requires { Lent meter.old }
+    ensures on_words { OnDay (λ (m : Meter). day_of m stream file.now volumes.now) meter.old counts.old result meter.new counts.new }
+    ensures leaves { Leaves stream meter.old result meter.new }
+{
+    give(
+        lent_meter::day(meter, stream, file, volumes).map(lent_meter::counts_words),
+        counts,
+    )
 }
 
 // The volume, the energies and the mass of a stream.
@@ -189,4 +211,32 @@ pub fn loonstool_write(
         metering,
     };
     number_in(&records::write(pair, lines, fractions, buffer))
+}
+
+// The next offset as C has it: 0 at the end of the file.
+fn next_word(found: Next) -> usize
+    ensures { result ≡ next_word (next found) }
+{
+    match found {
+        Next::Offset(offset) => offset,
+        Next::End => 0,
+    }
+}
+
+// The walk of a day file: the offset after the block at an offset, 5 for the first; 0 at the end of the file.
+pub fn loonstool_day_next(file: &[u8], offset: usize, next: &mut usize) -> u8
+    ensures { Returns (mapped next_word (next_of file.now offset)) next.old result next.new }
+{
+    give(day_file::next_offset(file, offset).map(next_word), next)
+}
+
+// The block at an offset of a day file, as a part of the file; false where the walk gives no block.
+pub fn loonstool_day_block<'a>(file: &'a [u8], offset: usize, block: &mut &'a [u8]) -> bool
+    ensures { BlockPut (block_of file.now offset) block.old.now result block.new.now }
+{
+    if let Some(bytes) = day_file::block_at(file, offset) {
+        *block = bytes;
+        return true;
+    }
+    false
 }

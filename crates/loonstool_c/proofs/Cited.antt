@@ -5,6 +5,7 @@ use Rattle.loonstool.proofs.loonstool_meter_fresh.Reads as read_fresh
 use Rattle.loonstool.proofs.loonstool_meter_check.Reads as read_check
 use Rattle.loonstool.proofs.loonstool_meter_analysis.Reads as read_analysis
 use Rattle.loonstool.proofs.loonstool_meter_metering.Reads as read_metering
+use Rattle.loonstool.proofs.loonstool_meter_day.Reads as read_day
 use Rattle.loonstool.proofs.loonstool_meter_totals.Reads as read_totals
 use Rattle.loonstool.proofs.loonstool_meter_mean.Reads as read_mean
 use Rattle.loonstool.proofs.loonstool_meter_mean_inferior.Reads as read_mean_inferior
@@ -12,6 +13,7 @@ use Rattle.loonstool_c.proofs.loonstool_meter_fresh as export_fresh
 use Rattle.loonstool_c.proofs.loonstool_meter_check as export_check
 use Rattle.loonstool_c.proofs.loonstool_meter_analysis as export_analysis
 use Rattle.loonstool_c.proofs.loonstool_meter_metering as export_metering
+use Rattle.loonstool_c.proofs.loonstool_meter_day as export_day
 use Rattle.loonstool_c.proofs.loonstool_meter_totals as export_totals
 use Rattle.loonstool_c.proofs.loonstool_meter_mean as export_mean
 use Rattle.loonstool_c.proofs.loonstool_meter_mean_inferior as export_mean_inferior
@@ -39,6 +41,12 @@ metering_proved = export_metering.Met.met
 
 pub metering_read : KnownAs 1 export_metering.Kinds.ps export_metering.Kinds.r export_metering.Reads.Ghost export_metering.Reads.requires export_metering.Reads.ensures read_metering.Asked read_metering.Learnt
 metering_read = export_metering.Reads.known
+
+pub day_proved : {M : Type 1} → export_day.Statement.statement M
+day_proved = export_day.Met.met
+
+pub day_read : KnownAs 4 export_day.Kinds.ps export_day.Kinds.r export_day.Reads.Ghost export_day.Reads.requires export_day.Reads.ensures read_day.Asked read_day.Learnt
+day_read = export_day.Reads.known
 
 pub totals_proved : {M : Type 1} → export_totals.Statement.statement M
 totals_proved = export_totals.Met.met

@@ -14,9 +14,11 @@ ghost use Rattle.meter.specs.declared.Meter.{Meter};
 ghost use Rattle.meter.specs.State.{fresh_meter};
 ghost use Rattle.meter.specs.Calls.{analysis_of, metering_of, totals_of, mean_of, mean_inferior_of};
 ghost use Rattle.lent_meter.specs.Words.{packed, packed_totals};
-ghost use Rattle.lent_meter.specs.Lent.{Lent, OnWords, Leaves, OnReading};
+ghost use Rattle.lent_meter.specs.Lent.{Lent, OnWords, Leaves, OnReading, OnDay};
 ghost use Rattle.lent_meter.specs.Check.{Tells};
-ghost use Rattle.loonstool.specs.Exports.{in_order, per_kilogram_in_order, analysis};
+ghost use Rattle.loonstool.specs.Exports.{in_order, per_kilogram_in_order, analysis, next_word, BlockPut};
+ghost use Rattle.day_file.specs.Walk.{next_of, block_of};
+ghost use Rattle.meter.specs.Days.{day_of};
 
 use lent_meter::Words;
 
@@ -53,6 +55,22 @@ pub extern "C" fn loonstool_meter_metering(meter: &mut Words, stream: usize, vol
     ensures leaves { Leaves stream meter.old result meter.new }
 {
     loonstool::loonstool_meter_metering(meter, stream, volume)
+}
+
+// A stream takes the analyses and the volumes of a day file, one volume for each block; counts are how many of each were accepted.
+#[unsafe(no_mangle)]
+pub extern "C" fn loonstool_meter_day(
+    meter: &mut Words,
+    stream: usize,
+    file: &[u8],
+    volumes: &[u64],
+    counts: &mut [u64; 2],
+) -> u8
+    requires { Lent meter.old }
+    ensures on_words { OnDay (λ (m : Meter). day_of m stream file.now volumes.now) meter.old counts.old result meter.new counts.new }
+    ensures leaves { Leaves stream meter.old result meter.new }
+{
+    loonstool::loonstool_meter_day(meter, stream, file, volumes, counts)
 }
 
 // The volume, the energies and the mass of a stream.
@@ -128,4 +146,24 @@ pub extern "C" fn loonstool_write(
     ensures { Returns (writing_of (contents combustion metering lines.now fractions.now) buffer.old) buffer.old result buffer.new }
 {
     loonstool::loonstool_write(combustion, metering, lines, fractions, buffer)
+}
+
+// The walk of a day file: the offset after the block at an offset, 5 for the first; 0 at the end of the file.
+#[unsafe(no_mangle)]
+pub extern "C" fn loonstool_day_next(file: &[u8], offset: usize, next: &mut usize) -> u8
+    ensures { Returns (mapped next_word (next_of file.now offset)) next.old result next.new }
+{
+    loonstool::loonstool_day_next(file, offset, next)
+}
+
+// The block at an offset of a day file, as a part of the file; false where the walk gives no block.
+#[unsafe(no_mangle)]
+pub extern "C" fn loonstool_day_block<'a>(
+    file: &'a [u8],
+    offset: usize,
+    block: &mut &'a [u8],
+) -> bool
+    ensures { BlockPut (block_of file.now offset) block.old.now result block.new.now }
+{
+    loonstool::loonstool_day_block(file, offset, block)
 }
