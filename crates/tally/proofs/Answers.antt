@@ -9,7 +9,7 @@ use lib.Dec.{eqb, ltb}
 use lib.ListN.{length, get_or}
 use Rattle.std.specs.Prelude.{Result, Ok, Err}
 use Rattle.records.specs.declared.refusal.Refusal.{Refusal}
-use Rattle.records.specs.declared.refusal.Refusal.TheVariants.{TooShort, MarkDiffers, VersionDiffers, PairNotPermitted, CountOutside, LengthDiffers, LineOutOfOrder, FractionZero, SumOutside, MethaneLow, AboveLimit, WaterHigh, StreamAbove, PairDiffers, VolumeAbove, NoAnalysis, TotalPasses, TotalZero, ListsDiffer, RoomShort}
+use Rattle.records.specs.declared.refusal.Refusal.TheVariants.{TooShort, MarkDiffers, VersionDiffers, PairNotPermitted, CountOutside, LengthDiffers, LineOutOfOrder, FractionZero, SumOutside, MethaneLow, AboveLimit, WaterHigh, StreamAbove, PairDiffers, VolumeAbove, NoAnalysis, TotalPasses, TotalZero, ListsDiffer, RoomShort, NoDayFile, OffsetOutside, BlockCut}
 use Rattle.records.specs.Order.{Order, first_of, refused, accepted, decided, otherwise}
 use Rattle.records.specs.Refusals.{Verdict, number, outcome}
 use Rattle.records.specs.Answers.{meaning, Gives}
@@ -38,6 +38,9 @@ refusals =
     ∷ TotalZero
     ∷ ListsDiffer
     ∷ RoomShort
+    ∷ NoDayFile
+    ∷ OffsetOutside
+    ∷ BlockCut
     ∷ []
 
 -- a list of refusals whose numbers go on from k
@@ -54,7 +57,7 @@ numbered_from k (e ∷ es) d (suc i) h low = numbered_from (suc k) es d i (and_p
 abbrev pub known : Order → Bool
 known [] = true
 known ((zero, holds) ∷ rest) = false
-known ((suc n, holds) ∷ rest) = ltb n 20 && known rest
+known ((suc n, holds) ∷ rest) = ltb n 23 && known rest
 
 -- the answer with a number, 0 for an acceptance
 abbrev pub answer_with : {A : Type 0} → ℕ → A → Result A Refusal
@@ -62,14 +65,14 @@ answer_with zero a = Ok a
 answer_with (suc n) a = Err (get_or refusals n TooShort)
 
 module _ {A B : Type 0} (f : A → B) (a : A) where
-  answer_means : (n : ℕ) → n ≤ 20 → outcome f (answer_with n a) ≡ decided n (f a)
+  answer_means : (n : ℕ) → n ≤ 23 → outcome f (answer_with n a) ≡ decided n (f a)
   answer_means zero low = refl
   answer_means (suc n) low = ap refused (numbered_from 1 refusals TooShort n refl low ∙ omega arith)
 
-  first_low : (o : Order) → known o ≡ true → first_of o ≤ 20
+  first_low : (o : Order) → known o ≡ true → first_of o ≤ 23
   first_low [] h = omega arith
   first_low ((zero, holds) ∷ rest) h = absurd (false≢true h)
-  first_low ((suc n, true) ∷ rest) h = ltb-true n 20 (and_parts _ _ h).0
+  first_low ((suc n, true) ∷ rest) h = ltb-true n 23 (and_parts _ _ h).0
   first_low ((suc n, false) ∷ rest) h = first_low rest (and_parts _ _ h).1
 
   pub answered_by : (o : Order) → known o ≡ true → outcome f (answer_with (first_of o) a) ≡ decided (first_of o) (f a)

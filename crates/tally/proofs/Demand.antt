@@ -20,12 +20,12 @@ use Rattle.meter.specs.State.{Sound, nothing_booked, fresh_stream, fresh_meter, 
 use Rattle.meter.proofs.Orders.{record_clear}
 use Rattle.meter.proofs.Streams.{at_made}
 use Rattle.meter.proofs.Kept.{fresh_is_sound}
-use Rattle.tally.specs.Tally.{last_stream, per_mj, per_kg, Energy, analysis, Call, done, Answer, StreamTally, account_of, no_account, fresh_stream_tally, Tally, fresh_tally, tally_at, above_last, other_pair, order_of, tally_after, answers_to, tallied}
-use Rattle.tally.specs.Run.{FreshReturns, Run, ended, after, by_totals, by_mean}
+use Rattle.tally.specs.Tally.{last_stream, per_mj, per_kg, Energy, analysis, Call, done, Answer, StreamTally, account_of, no_account, fresh_stream_tally, Tally, fresh_tally, tally_at, above_last, other_pair, order_of, tally_after, answers_to, tallied, Listed, single_calls, Reply, replies_to}
+use Rattle.tally.specs.Run.{FreshReturns, Run, ended, after, listed, replies, by_totals, by_mean}
 use Rattle.tally.specs.Demand.{accepted_volume, AcceptedIn, here, later, AnalysisShown, nothing, MeanWithin, no_call, EachLeaves, Claim}
 use Rattle.tally.proofs.Energies.{for_both, mean_at_most}
 use Rattle.tally.proofs.Alike.{AlikeRegister, AlikeEnergy, Alike}
-use Rattle.tally.proofs.Steps.{Linked, required, Next, both, step}
+use Rattle.tally.proofs.Steps.{Linked, required, Next, both, step, first, replied}
 use Rattle.tally.proofs.Volumes.{volume_sum}
 
 -- near(n / v) is within t + 1 of x / v, where n is within t × v of x
@@ -88,16 +88,24 @@ each_leaves m cs rs m₂ t h (ended m₀) = tt
 each_leaves m cs rs m₂ t h (after m₀ m₁ m₃ cs₁ cs₂ rs₁ rs₂ s more) =
     let n = step t h s in (n.leaves, each_leaves m₁ cs₂ rs₂ m₃ (tallied t cs₁) n.linked more)
 
+-- each call as it was made, and its reply
+record ListReplied (t : Tally) (cs : List Call) (ls : List Listed) (given : List Reply) : Type 0 where
+  pub calls : cs ≡ single_calls ls
+  pub replies : given ≡ replies_to t ls
+
+list_replied : {m : Meter} {cs : List Call} {rs : List Answer} {m₂ : Meter} (t : Tally) → Linked m t → (ran : Run m cs rs m₂) → ListReplied t cs (listed ran) (replies ran)
+list_replied t h (ended m) = record { calls = refl; replies = refl }
+list_replied t h (after m m₁ m₂ cs₁ cs rs₁ rs s more) =
+    let one = replied t h s in
+    let rest = list_replied (tallied t cs₁) (step t h s).linked more in
+    record { calls = cc (one.calls, rest.calls); replies = cc (one.calls, one.reply, rest.replies) }
+
 -- an accepted analysis of the list
 analysis_shown : (bs : List ℕ) (k : ℕ) (s : StreamTally) → first_of (order_of k (analysis bs) s) ≡ 0 → AnalysisShown bs
 analysis_shown bs k s z =
     let clear = record_clear bs (above_last k) (other_pair s.pair (combustion_in bs) (metering_in bs)) z in
     let reads : reading_of bs ≡ accepted (contents_in bs) = ap (λ (n : ℕ). decided n (contents_in bs)) clear in
     record { contents = contents_in bs; reads = reads; shown = every_accepted_record bs (contents_in bs) reads }
-
--- the first of two lists of answers
-first : {a b : Answer} {rs ss : List Answer} → a ∷ rs ≡ b ∷ ss → a ≡ b
-first e = cc
 
 analyses : (bs : List ℕ) (t : Tally) {cs : List Call} {rs : List Answer} → rs ≡ answers_to t cs → AcceptedIn bs cs rs → AnalysisShown bs
 analyses bs t e (here k cs rs) =
@@ -111,6 +119,8 @@ demand3 m₀ m cs rs made ran =
     let linked_at = λ (w : Bor Meter) (at : w.now ≡ m). subst (λ (x : Meter). Linked x t) (sym at) r.linked in
     record {
       answers = r.answers;
+      calls = (list_replied fresh_tally (fresh_start made) ran).calls;
+      replies_are = (list_replied fresh_tally (fresh_start made) ran).replies;
       each = λ k b.
           let l = tally_at t k in
           let a = r.linked.each k in

@@ -1,22 +1,27 @@
 -- The claim is not empty: there is a fresh meter, and every list of calls has a run from every meter.
-use mathlib.Core.Path.{◌≡◌, refl}
+use mathlib.Core.Path.{◌≡◌, refl, sym, ◌∙◌}
 use mathlib.Core.Bool.{true}
-use mathlib.Core.List.{[], ◌∷◌}
+use mathlib.Core.List.{List, [], ◌∷◌, ◌++◌}
 use Prim.Native.Nat.{ℕ}
+use lib.ListN.{length}
 use denote.Ref.{Bor, MutBor}
 use Rattle.records.specs.Order.{Order, first_of, decided, otherwise}
 use Rattle.records.specs.Refusals.{Verdict}
 use Rattle.records.specs.Answers.{Gives}
 use Rattle.properties.specs.declared.quantities.Quantity.{Quantity}
 use Rattle.properties.specs.Quantities.{calorific_bound}
+use Rattle.records.proofs.OrderLaws.{mapped_decided}
+use Rattle.day_file.specs.Format.{blocks_of}
+use Rattle.meter.specs.declared.day.Counts.{Counts}
 use Rattle.meter.specs.declared.Meter.{Meter}
 use Rattle.meter.specs.declared.StreamTotals.{StreamTotals}
 use Rattle.meter.specs.State.{fresh_meter, stream_at, with_stream}
-use Rattle.meter.specs.Conditions.{analysis_order, metering_order, totals_order, mean_order}
+use Rattle.meter.specs.Conditions.{analysis_order, metering_order, totals_order, mean_order, day_order}
 use Rattle.meter.specs.Calls.{analysed, metered, totals_of, mean_in}
+use Rattle.meter.specs.Days.{Day, meter_day, day_of, left_in, GivesDay}
 use Rattle.meter.specs.Answers.{totals_meaning, mean_meaning}
-use Rattle.tally.specs.Tally.{Energy, Ask, analysis, metering, totals, mean, Call, on, Answer}
-use Rattle.tally.specs.Run.{TotalsAnswer, MeanAnswer, Step, by_analysis, by_metering, by_totals, by_mean, ended, after}
+use Rattle.tally.specs.Tally.{Energy, Ask, analysis, metering, totals, mean, on, Answer, Listed, single, day, counts_as, single_calls}
+use Rattle.tally.specs.Run.{DayAnswer, TotalsAnswer, MeanAnswer, Step, by_analysis, by_metering, by_day, by_totals, by_mean, listed_by, ended, after}
 use Rattle.tally.specs.Demand.{EveryListHasRun, HasFresh}
 use Rattle.tally.proofs.Answers.{known, answer_with, answered_by, verdict_with, gives_by}
 use Rattle.tally.proofs.Energies.{register_of, mean_for, mean_returned}
@@ -57,31 +62,52 @@ verdict_by o = verdict_with (first_of o)
 pub call_gives : (o : Order) → known o ≡ true → (m new : Meter) → Gives (decided (first_of o) new) m (verdict_by o) (otherwise m (decided (first_of o) new))
 call_gives o h m new = gives_by o h new m refl
 
-record HasStep (m : Meter) (c : Call) : Type 0 where
-  pub answer : Answer
+record HasStep (m : Meter) (l : Listed) : Type 0 where
+  pub answers : List Answer
   pub meter : Meter
-  pub step : Step m (c ∷ []) (answer ∷ []) meter
+  pub step : Step m (counts_as l) answers meter
+  pub as_listed : listed_by step ≡ l
 
-has_step : (m : Meter) (k : ℕ) (ask : Ask) → HasStep m (on k ask)
-has_step m k (analysis bs) =
+-- the answer to a day file, and the meter after it
+pub day_with : Meter → ℕ → List ℕ → List ℕ → DayAnswer
+day_with m k file vs = answer_with (first_of (day_order k file (length vs))) (meter_day k m (blocks_of file) vs).counts
+
+abbrev pub day_left : Meter → ℕ → List ℕ → List ℕ → Meter
+day_left m k file vs = otherwise m (left_in (day_of m k file vs))
+
+pub day_gives : (m : Meter) (k : ℕ) (file vs : List ℕ) → GivesDay (day_of m k file vs) m (day_with m k file vs) (day_left m k file vs)
+unfolding day_with
+day_gives m k file vs =
+    let o = day_order k file (length vs) in
+    let d = meter_day k m (blocks_of file) vs in
+    record { counts = answered_by (λ (c : Counts). c) d.counts o refl ∙ sym (mapped_decided (λ (e : Day Meter). e.counts) (first_of o) d); stands = refl }
+
+has_single : (m : Meter) (k : ℕ) (ask : Ask) → HasStep m (single (on k ask))
+has_single m k (analysis bs) =
     let o = analysis_order k bs (stream_at m k) in
     let new = with_stream m k (analysed (stream_at m k) bs) in
-    record { answer = _; meter = _; step = by_analysis ([], ([], tt)) (to_mut m) k (to bs) (verdict_by o) (to_mut (otherwise m (decided (first_of o) new))) (λ p. call_gives o refl m new) }
-has_step m k (metering v) =
+    record { answers = _; meter = _; step = by_analysis ([], ([], tt)) (to_mut m) k (to bs) (verdict_by o) (to_mut (otherwise m (decided (first_of o) new))) (λ p. call_gives o refl m new); as_listed = refl }
+has_single m k (metering v) =
     let o = metering_order k v (stream_at m k) in
     let new = with_stream m k (metered (stream_at m k) v) in
-    record { answer = _; meter = _; step = by_metering ([], tt) (to_mut m) k v (verdict_by o) (to_mut (otherwise m (decided (first_of o) new))) (λ p. call_gives o refl m new) }
-has_step m k totals = record { answer = _; meter = _; step = by_totals ([], tt) (to m) k (totals_with m k) (λ p. totals_means m k) }
-has_step m k (mean e) =
-    record { answer = _; meter = _; step = by_mean e ([], tt) (to m) k (mean_with e m k) (mean_returned ([], tt) (to m) k e _ (mean_means e m k)) }
+    record { answers = _; meter = _; step = by_metering ([], tt) (to_mut m) k v (verdict_by o) (to_mut (otherwise m (decided (first_of o) new))) (λ p. call_gives o refl m new); as_listed = refl }
+has_single m k totals = record { answers = _; meter = _; step = by_totals ([], tt) (to m) k (totals_with m k) (λ p. totals_means m k); as_listed = refl }
+has_single m k (mean e) =
+    record { answers = _; meter = _; step = by_mean e ([], tt) (to m) k (mean_with e m k) (mean_returned ([], tt) (to m) k e _ (mean_means e m k)); as_listed = refl }
+
+has_step : (m : Meter) (l : Listed) → HasStep m l
+has_step m (single c) = has_single m c.stream c.ask
+has_step m (day k file vs) =
+    record { answers = _; meter = _; step = by_day ([], ([], ([], tt))) (to_mut m) k (to file) (to vs) (day_with m k file vs) (to_mut (day_left m k file vs)) (λ p. day_gives m k file vs); as_listed = refl }
 
 pub every_list_has_run : EveryListHasRun
-every_list_has_run m [] = record { answers = []; meter = m; run = ended m }
-every_list_has_run m (c ∷ cs) =
-    let s = has_step m c.stream c.ask in
-    let r = every_list_has_run s.meter cs in
+every_list_has_run m [] = record { answers = []; meter = m; run = ended m; as_listed = refl }
+every_list_has_run m (l ∷ ls) =
+    let s = has_step m l in
+    let r = every_list_has_run s.meter ls in
     record {
-      answers = s.answer ∷ r.answers;
+      answers = s.answers ++ r.answers;
       meter = r.meter;
-      run = after m s.meter r.meter (c ∷ []) cs (s.answer ∷ []) r.answers s.step r.run;
+      run = after m s.meter r.meter (counts_as l) (single_calls ls) s.answers r.answers s.step r.run;
+      as_listed = cc (s.as_listed, r.as_listed);
     }

@@ -2,27 +2,30 @@
 use mathlib.Core.Path.{◌≡◌, refl, sym, ap, subst, ◌∙◌}
 use mathlib.Core.Bool.{Bool, true, false, cond, false≢true}
 use mathlib.Core.List.{List, [], ◌∷◌, ◌++◌}
-use Prim.Native.Nat.{ℕ, zero, suc, ◌≤◌}
+use Prim.Native.Nat.{ℕ, zero, suc, ◌+◌, ◌≤◌}
 use native.Mathlib.Omega.{arith}
 use lib.Dec.{eqb}
 use lib.ListN.{length, length-set}
 use lib.Seq.{set-get_or}
 use Rattle.records.specs.Refusals.{Verdict}
-use Rattle.records.specs.Order.{Outcome, refused, first_of, decided, otherwise, mapped}
+use Rattle.records.specs.Order.{Outcome, refused, accepted, first_of, decided, otherwise, mapped}
 use Rattle.records.specs.Answers.{Gives}
-use Rattle.records.proofs.OrderLaws.{mapped_decided, decided_refused}
+use Rattle.records.proofs.OrderLaws.{mapped_decided}
+use Rattle.day_file.specs.Format.{blocks_of}
+use Rattle.meter.specs.declared.day.Counts.{Counts}
 use Rattle.meter.specs.declared.Stream.{Stream}
 use Rattle.meter.specs.declared.Meter.{Meter}
 use Rattle.meter.specs.State.{Sound, fresh_stream, stream_at, with_stream}
 use Rattle.meter.specs.Conditions.{analysis_order, metering_order, totals_order, mean_order}
-use Rattle.meter.specs.Calls.{analysed, metered, analysis_of, metering_of, mean_in}
+use Rattle.meter.specs.Calls.{analysed, metered, analysis_of, metering_of, after_analysis, after_metering, mean_in}
+use Rattle.meter.specs.Days.{one_of, meter_day, day_of, counts_in, left_in, GivesDay}
 use Rattle.meter.specs.Answers.{totals_meaning, mean_meaning}
 use Rattle.meter.proofs.Orders.{clear_analysis, clear_metering}
 use Rattle.meter.proofs.Outcomes.{meaning_mapped}
 use Rattle.meter.proofs.Streams.{at_put}
-use Rattle.meter.proofs.Kept.{others_stay, analysis_keeps, metering_keeps}
-use Rattle.tally.specs.Tally.{last_stream, Ask, analysis, metering, totals, mean, Call, on, Given, done, mean_is, Answer, StreamTally, fresh_stream_tally, Tally, tally_at, with_tally, left_by, given_by, number_for, answer_to, tally_after, answers_to, tallied}
-use Rattle.tally.specs.Run.{change_answer, totals_given, Step, by_analysis, by_metering, by_totals, by_mean}
+use Rattle.meter.proofs.Kept.{others_stay, sound_after_analysis, sound_after_metering}
+use Rattle.tally.specs.Tally.{last_stream, Ask, analysis, metering, totals, mean, Call, on, Given, done, mean_is, Answer, StreamTally, fresh_stream_tally, Tally, tally_at, with_tally, left_by, given_by, number_for, answer_to, tally_after, answers_to, tallied, day_order_of, day_pairs, day_calls, Listed, single, day, counts_as, Counted, Reply, answered, counted, one_accepted, counted_in, reply_to}
+use Rattle.tally.specs.Run.{DayAnswer, change_answer, totals_given, day_reply, single_answer, single_answers, Step, by_analysis, by_metering, by_day, by_totals, by_mean, listed_by, reply_by}
 use Rattle.tally.specs.Demand.{is_reading, Required, Leaves, StepLeaves, no_call, next_call}
 use Rattle.tally.proofs.Energies.{register_of, mean_found}
 use Rattle.tally.proofs.Alike.{Alike, analysis_order_lem, metering_order_lem, mean_order_lem, analysis_alike, metering_alike, totals_alike, mean_alike}
@@ -35,7 +38,7 @@ pub record Linked (m : Meter) (t : Tally) : Type 0 where
 
 -- what holds of every meter is all that the contracts require
 pub required : (m : Meter) → Sound m → Required m
-required m h = record { analysis = λ κs w k b e. tt; metering = λ κs w k v e. tt; totals = λ κs w k e. tt; mean = λ e κs w k is. tt }
+required m h = record { analysis = λ κs w k b e. tt; metering = λ κs w k v e. tt; day = λ κs w k f v e. tt; totals = λ κs w k e. tt; mean = λ e κs w k is. tt }
 
 -- calls with their answers, from the meter m beside the tally t to the meter m₁
 pub record Next (t : Tally) (m : Meter) (cs : List Call) (rs : List Answer) (m₁ : Meter) : Type 0 where
@@ -82,24 +85,21 @@ module _ (m : Meter) (t : Tally) (h : Linked m t) where
 
   -- one that may change its stream
   changes : (k : ℕ) (ask : Ask) (s : Stream) (n : ℕ) → n ≡ number_for t (on k ask) → (n ≡ 0 → (k ≤ last_stream) × Alike s (left_by ask (tally_at t k))) →
-      done ≡ given_by ask (tally_at t k) → is_reading ask ≡ false →
-      (v : Verdict) (after : Meter) → Gives (decided n (with_stream m k s)) m v after → Sound after → Next t m (on k ask ∷ []) (change_answer v ∷ []) after
-  changes k ask s n is new gives-done changing v after gives sound =
+      done ≡ given_by ask (tally_at t k) → is_reading ask ≡ false → Sound (otherwise m (decided n (with_stream m k s))) →
+      Next t m (on k ask ∷ []) (mapped (λ (x : Meter). done) (decided n (with_stream m k s)) ∷ []) (otherwise m (decided n (with_stream m k s)))
+  changes k ask s n is new gives-done changing sound =
       one (on k ask)
-      (meaning_mapped (λ (x : Meter). done) v after
-      ∙ ap (mapped (λ (x : Meter). done)) gives.means
-      ∙ mapped_decided (λ (x : Meter). done) n (with_stream m k s)
-      ∙ rw (is, gives-done))
-      (rw (gives.stands, sym is) (linked_with n k s (left_by ask (tally_at t k)) new (subst Sound gives.stands sound)))
+      (mapped_decided (λ (x : Meter). done) n (with_stream m k s) ∙ rw (is, gives-done))
+      (rw (sym is) (linked_with n k s (left_by ask (tally_at t k)) new sound))
       (record {
-        refusal = λ number e. gives.stands ∙ refused_keeps n (sym gives.means ∙ meaning_mapped (λ (x : Given). after) v done ∙ ap (mapped (λ (x : Given). after)) e);
+        refusal = refused_keeps n;
         reading = λ e. elim (false≢true (sym changing ∙ e)) [ ];
-        others = others_stay n m k s v after gives;
+        others = others_stay n m k s;
       })
     where
-      refused_keeps : (n : ℕ) {number : ℕ} → decided n (with_stream m k s) ≡ refused number → otherwise m (decided n (with_stream m k s)) ≡ m
-      refused_keeps zero e = let z = decided_refused zero (with_stream m k s) _ e in elim (z.1 z.0) [ ]
-      refused_keeps (suc n) e = refl
+      refused_keeps : (n : ℕ) (number : ℕ) → mapped (λ (x : Meter). done) (decided n (with_stream m k s)) ≡ refused number → otherwise m (decided n (with_stream m k s)) ≡ m
+      refused_keeps zero number e = let z : ⊥ = cc in elim z [ ]
+      refused_keeps (suc n) number e = refl
 
   -- a reading
   same_tally : (n k : ℕ) → otherwise t (decided n (with_tally t k (tally_at t k))) ≡ t
@@ -112,25 +112,90 @@ module _ (m : Meter) (t : Tally) (h : Linked m t) where
       one (on k ask) (ap (mapped f) got ∙ mapped_decided f n x ∙ rw (is, same)) (rw (keeps, same_tally (number_for t (on k ask)) k) h)
       (record { refusal = λ number e. refl; reading = λ e. refl; others = λ j e. refl })
 
-  -- each call, from what its contract gives
-  analysis_next : (k : ℕ) (bs : List ℕ) (v : Verdict) (after : Meter) → Gives (analysis_of m k bs) m v after → Next t m (on k (analysis bs) ∷ []) (change_answer v ∷ []) after
-  analysis_next k bs v after gives =
+  -- each call, by its definition
+  analysis_next : (k : ℕ) (bs : List ℕ) → Next t m (on k (analysis bs) ∷ []) (single_answer m k (analysis bs) ∷ []) (after_analysis m k bs)
+  analysis_next k bs =
       let s = stream_at m k in
       let l = tally_at t k in
       changes k (analysis bs) (analysed s bs) (first_of (analysis_order k bs s)) (ap first_of (analysis_order_lem s l (h.each k) k bs))
-      (λ z. ((clear_analysis k bs s z).stream, analysis_alike s l (h.each k) k bs z)) refl refl v after gives (analysis_keeps m k bs v after gives h.sound)
+      (λ z. ((clear_analysis k bs s z).stream, analysis_alike s l (h.each k) k bs z)) refl refl (sound_after_analysis k bs m h.sound)
 
-  metering_next : (k w : ℕ) (v : Verdict) (after : Meter) → Gives (metering_of m k w) m v after → Next t m (on k (metering w) ∷ []) (change_answer v ∷ []) after
-  metering_next k w v after gives =
+  metering_next : (k v : ℕ) → Next t m (on k (metering v) ∷ []) (single_answer m k (metering v) ∷ []) (after_metering m k v)
+  metering_next k v =
       let s = stream_at m k in
       let l = tally_at t k in
-      changes k (metering w) (metered s w) (first_of (metering_order k w s)) (ap first_of (metering_order_lem s l (h.each k) k w))
-      (λ z. ((clear_metering k w s z).stream, metering_alike s l (h.each k) k w z)) refl refl v after gives (metering_keeps m k w v after gives h.sound)
+      changes k (metering v) (metered s v) (first_of (metering_order k v s)) (ap first_of (metering_order_lem s l (h.each k) k v))
+      (λ z. ((clear_metering k v s z).stream, metering_alike s l (h.each k) k v z)) refl refl (sound_after_metering k v m h.sound)
+
+-- the blocks and volumes of a day file one by one
+pairs_next : (k : ℕ) (bs : List (List ℕ)) (vs : List ℕ) (m : Meter) (t : Tally) → Linked m t →
+    Next t m (day_pairs k bs vs) (single_answers m (day_pairs k bs vs)) (meter_day k m bs vs).left
+pairs_next k [] vs m t h = record { answers = refl; linked = h; leaves = no_call m }
+pairs_next k (b ∷ bs) [] m t h = record { answers = refl; linked = h; leaves = no_call m }
+pairs_next k (b ∷ bs) (v ∷ vs) m t h =
+    let a = analysis_next m t h k b in
+    let m₁ = after_analysis m k b in
+    let t₁ = tally_after t (on k (analysis b)) in
+    let q = metering_next m₁ t₁ a.linked k v in
+    both a (both q (pairs_next k bs vs (after_metering m₁ k v) (tally_after t₁ (on k (metering v))) q.linked))
+
+-- the counts of a day file are those of its single calls
+one_counted : (o : Outcome Meter) → one_of o ≡ one_accepted (mapped (λ (x : Meter). done) o)
+one_counted (refused n) = refl
+one_counted (accepted m) = refl
+
+abbrev counted_of : Counts → Counted
+counted_of c = record { analyses = c.analyses; volumes = c.volumes }
+
+counts_are : (k : ℕ) (bs : List (List ℕ)) (vs : List ℕ) (m : Meter) →
+    counted_of (meter_day k m bs vs).counts ≡ counted_in (day_pairs k bs vs) (single_answers m (day_pairs k bs vs))
+counts_are k [] vs m = refl
+counts_are k (b ∷ bs) [] m = refl
+counts_are k (b ∷ bs) (v ∷ vs) m =
+    let m₁ = after_analysis m k b in
+    let rest = counts_are k bs vs (after_metering m₁ k v) in
+    λ i.
+        record {
+          analyses = one_counted (analysis_of m k b) i + (rest i).analyses;
+          volumes = one_counted (metering_of m₁ k v) i + (rest i).volumes;
+        }
+
+-- a day file: as its single calls, or as none where it is refused
+module _ (k : ℕ) (file vs : List ℕ) (m : Meter) (t : Tally) (h : Linked m t) where
+  abbrev number : ℕ
+  number = first_of (day_order_of k file vs)
+
+  abbrev calls : ℕ → List Call
+  calls n = otherwise [] (decided n (day_pairs k (blocks_of file) vs))
+
+  by_number : (n : ℕ) → Next t m (calls n) (single_answers m (calls n)) (otherwise m (left_in (decided n (meter_day k m (blocks_of file) vs))))
+  by_number zero = pairs_next k (blocks_of file) vs m t h
+  by_number (suc n) = record { answers = refl; linked = h; leaves = no_call m }
+
+  pub day_next : (r : DayAnswer) (after : Meter) → GivesDay (day_of m k file vs) m r after → Next t m (day_calls k file vs) (single_answers m (day_calls k file vs)) after
+  day_next r after gives = subst (Next t m (day_calls k file vs) (single_answers m (day_calls k file vs))) (sym gives.stands) (by_number number)
+
+  counts_by_number : (n : ℕ) → mapped counted_of (counts_in (decided n (meter_day k m (blocks_of file) vs))) ≡ decided n (counted_in (calls n) (answers_to t (calls n)))
+  counts_by_number zero =
+      ap accepted (counts_are k (blocks_of file) vs m ∙ ap (counted_in (day_pairs k (blocks_of file) vs)) (pairs_next k (blocks_of file) vs m t h).answers)
+  counts_by_number (suc n) = refl
+
+  pub day_replied : (r : DayAnswer) (after : Meter) → GivesDay (day_of m k file vs) m r after → day_reply r ≡ reply_to t (day k file vs)
+  day_replied r after gives = ap (λ (o : Outcome Counts). counted (mapped counted_of o)) gives.counts ∙ ap counted (counts_by_number number)
+
+-- what a verdict says, and what stands after it
+given : {m : Meter} {o : Outcome Meter} (v : Verdict) {after : Meter} → Gives o m v after → change_answer v ≡ mapped (λ (x : Meter). done) o
+given v {after} gives = meaning_mapped (λ (x : Meter). done) v after ∙ ap (mapped (λ (x : Meter). done)) gives.means
+
+changed : {t : Tally} {m : Meter} {c : Call} {o : Outcome Meter} (v : Verdict) {after : Meter} → Gives o m v after →
+    Next t m (c ∷ []) (mapped (λ (x : Meter). done) o ∷ []) (otherwise m o) → Next t m (c ∷ []) (change_answer v ∷ []) after
+changed {t} {m} {c} v gives next = rw (given v gives, gives.stands) next
 
 -- one step
 pub step : {m : Meter} {cs : List Call} {rs : List Answer} {m₁ : Meter} (t : Tally) → Linked m t → Step m cs rs m₁ → Next t m cs rs m₁
-step t h (by_analysis κs w k b r w₁ got) = analysis_next w.now t h k b.now r w₁.now (got tt)
-step t h (by_metering κs w k v r w₁ got) = metering_next w.now t h k v r w₁.now (got tt)
+step t h (by_analysis κs w k b r w₁ got) = changed r (got tt) (analysis_next w.now t h k b.now)
+step t h (by_metering κs w k v r w₁ got) = changed r (got tt) (metering_next w.now t h k v)
+step t h (by_day κs w k f v r w₁ got) = day_next k f.now v.now w.now t h r w₁.now (got tt)
 step t h (by_totals κs w k r got) =
     let m = w.now in
     reads m t h totals_given k totals (totals_meaning r) (first_of (totals_order k)) (stream_at m k).totals refl (got tt) (totals_alike (stream_at m k) (tally_at t k) (h.each k)) refl
@@ -140,3 +205,22 @@ step t h (by_mean e κs w k r got) =
     let l = tally_at t k in
     reads m t h mean_is k (mean e) (mean_meaning r) (first_of (mean_order k s)) (mean_in (register_of e s.totals) s.totals.volume) (ap first_of (mean_order_lem s l (h.each k) k e)) (mean_found κs w k e r got)
     (mean_alike s l (h.each k) e) refl
+
+-- the first of two lists of answers
+pub first : {a b : Answer} {rs ss : List Answer} → a ∷ rs ≡ b ∷ ss → a ≡ b
+first e = cc
+
+-- and the calls that it counts as, and the reply
+pub record Replied (t : Tally) (cs : List Call) (l : Listed) (r : Reply) : Type 0 where
+  pub calls : cs ≡ counts_as l
+  pub reply : r ≡ reply_to t l
+
+replied_single : {m m₁ : Meter} {t : Tally} {c : Call} {a : Answer} → Next t m (c ∷ []) (a ∷ []) m₁ → Replied t (c ∷ []) (single c) (answered a)
+replied_single n = record { calls = refl; reply = ap answered (first n.answers) }
+
+pub replied : {m : Meter} {cs : List Call} {rs : List Answer} {m₁ : Meter} (t : Tally) → Linked m t → (s : Step m cs rs m₁) → Replied t cs (listed_by s) (reply_by s)
+replied t h (by_analysis κs w k b r w₁ got) = replied_single (step t h (by_analysis κs w k b r w₁ got))
+replied t h (by_metering κs w k v r w₁ got) = replied_single (step t h (by_metering κs w k v r w₁ got))
+replied t h (by_day κs w k f v r w₁ got) = record { calls = refl; reply = day_replied k f.now v.now w.now t h r w₁.now (got tt) }
+replied t h (by_totals κs w k r got) = replied_single (step t h (by_totals κs w k r got))
+replied t h (by_mean e κs w k r got) = replied_single (step t h (by_mean e κs w k r got))

@@ -16,8 +16,8 @@ use Rattle.properties.specs.Accepted.{Shown}
 use Rattle.meter.specs.declared.Gas.{Gas}
 use Rattle.meter.specs.declared.Meter.{Meter}
 use Rattle.meter.specs.State.{Sound, stream_at}
-use Rattle.tally.specs.Tally.{last_stream, Energy, Ask, analysis, metering, totals, mean, Call, on, done, Answer, Account, StreamTally, account_of, given_by, tally_at, fresh_tally, answers_to, tallied}
-use Rattle.tally.specs.Run.{TotalsAnswer, MeanAnswer, AnalysisAsks, MeteringAsks, TotalsAsks, MeanAsks, FreshReturns, TotalsReturns, MeanReturns, totals_answer, mean_answer, Run, ended, after}
+use Rattle.tally.specs.Tally.{last_stream, Energy, Ask, analysis, metering, totals, mean, Call, on, done, Answer, Account, StreamTally, account_of, given_by, tally_at, fresh_tally, answers_to, tallied, Listed, single_calls, replies_to}
+use Rattle.tally.specs.Run.{TotalsAnswer, MeanAnswer, AnalysisAsks, MeteringAsks, DayAsks, TotalsAsks, MeanAsks, FreshReturns, TotalsReturns, MeanReturns, totals_answer, mean_answer, Run, ended, after, listed, replies}
 
 -- the volume that a call added: that of an accepted metering call
 abbrev pub added_by : Ask → Answer → ℕ
@@ -78,6 +78,7 @@ pub record StreamDemand (k : ℕ) (s : StreamTally) (cs : List Call) (rs : List 
 pub record Required (m : Meter) : Type 0 where
   pub analysis : (κs : Lfts 2) (w : MutBor Meter) (k : ℕ) (b : Bor (List ℕ)) → w.now ≡ m → AnalysisAsks κs w k b
   pub metering : (κs : Lfts 1) (w : MutBor Meter) (k v : ℕ) → w.now ≡ m → MeteringAsks κs w k v
+  pub day : (κs : Lfts 3) (w : MutBor Meter) (k : ℕ) (f v : Bor (List ℕ)) → w.now ≡ m → DayAsks κs w k f v
   pub totals : (κs : Lfts 1) (w : Bor Meter) (k : ℕ) → w.now ≡ m → TotalsAsks κs w k
   pub mean : (e : Energy) (κs : Lfts 1) (w : Bor Meter) (k : ℕ) → w.now ≡ m → MeanAsks e κs w k
 
@@ -105,11 +106,15 @@ unfoldable pub EachLeaves : (m : Meter) (cs : List Call) (rs : List Answer) (m' 
 EachLeaves m cs rs m' (ended m₁) = Unit
 EachLeaves m cs rs m' (after m₀ m₁ m₂ cs₁ cs₂ rs₁ rs₂ s more) = StepLeaves m₀ cs₁ rs₁ m₁ × EachLeaves m₁ cs₂ rs₂ m₂ more
 
--- the list cs from the meter m₀, with the answers rs and the meter m after it
+-- the list cs from the meter m₀, with the answers rs and the meter m after it; a day file of the list counts as its single calls
 pub record Demand3 (m₀ : Meter) (cs : List Call) (rs : List Answer) (m : Meter) (ran : Run m₀ cs rs m) : Type 0 where
   -- each call is accepted where the tally accepts it, refused by the tally's number where not, and each accepted reading answers what
   -- the tally gives
   pub answers : rs ≡ answers_to fresh_tally cs
+  -- as they were made, the calls are these, and each reply is the tally's: a day file is accepted where the tally accepts it, refused by
+  -- its number where not, and its counts are how many of its single calls the tally accepts
+  pub calls : cs ≡ single_calls (listed ran)
+  pub replies_are : replies ran ≡ replies_to fresh_tally (listed ran)
   pub each : (k : ℕ) → k ≤ last_stream → StreamDemand k (tally_at (tallied fresh_tally cs) k) cs rs m
   -- each accepted analysis of the list
   pub analyses : (bs : List ℕ) → AcceptedIn bs cs rs → AnalysisShown bs
@@ -124,14 +129,15 @@ pub record Demand3 (m₀ : Meter) (cs : List Call) (rs : List Answer) (m : Meter
 abbrev pub Claim : Type 0
 Claim = (m₀ m : Meter) (cs : List Call) (rs : List Answer) → FreshReturns m₀ → (ran : Run m₀ cs rs m) → Demand3 m₀ cs rs m ran
 
--- the claim is not empty: every list of calls has a run from every meter, and there is a fresh meter
-pub record HasRun (m : Meter) (cs : List Call) : Type 0 where
+-- the claim is not empty: every list of calls, day files among them, has a run from every meter, and there is a fresh meter
+pub record HasRun (m : Meter) (ls : List Listed) : Type 0 where
   pub answers : List Answer
   pub meter : Meter
-  pub run : Run m cs answers meter
+  pub run : Run m (single_calls ls) answers meter
+  pub as_listed : listed run ≡ ls
 
 abbrev pub EveryListHasRun : Type 0
-EveryListHasRun = (m : Meter) (cs : List Call) → HasRun m cs
+EveryListHasRun = (m : Meter) (ls : List Listed) → HasRun m ls
 
 pub record HasFresh : Type 0 where
   pub meter : Meter

@@ -12,17 +12,24 @@ use Rattle.properties.specs.Quantities.{calorific_bound}
 use Rattle.meter.specs.declared.Meter.{Meter}
 use Rattle.meter.specs.declared.Energy.TheVariants as energy
 use Rattle.meter.specs.declared.Energy.{Energy as MeterEnergy}
+use Rattle.meter.specs.declared.day.Counts.{Counts}
 use Rattle.meter.specs.declared.Register.{Register}
 use Rattle.meter.specs.declared.StreamTotals.{StreamTotals}
+use Rattle.meter.specs.Calls.{analysis_of, metering_of, after_analysis, after_metering, totals_of, mean_for}
+use Rattle.meter.specs.Days.{counts_meaning}
 use Rattle.meter.specs.Answers.{totals_meaning, mean_meaning}
 use Rattle.meter.proofs.Meter.new.Reads as fresh-reads
 use Rattle.meter.proofs.Meter.analysis.Reads as analysis-reads
 use Rattle.meter.proofs.Meter.metering.Reads as metering-reads
+use Rattle.meter.proofs.Meter.day.Reads as day-reads
 use Rattle.meter.proofs.Meter.totals.Reads as totals-reads
 use Rattle.meter.proofs.Meter.mean.Reads as mean-reads
-use Rattle.tally.specs.Tally.{Energy, superior, inferior, analysis, metering, totals, mean, Call, on, Parts, Given, done, totals_are, mean_is, Answer}
+use Rattle.tally.specs.Tally.{Energy, superior, inferior, Ask, analysis, metering, totals, mean, Call, on, Parts, Given, done, totals_are, mean_is, Answer, day_calls, Listed, single, day, Reply, answered, counted}
 
--- what the readings answer
+-- what a day file and the readings answer
+abbrev pub DayAnswer : Type 0
+DayAnswer = Result Counts Refusal
+
 abbrev pub TotalsAnswer : Type 0
 TotalsAnswer = Result StreamTotals Refusal
 
@@ -41,6 +48,9 @@ AnalysisAsks κs w k b = analysis-reads.Asked κs (w, (k, (b, tt)))
 abbrev pub MeteringAsks : Lfts 1 → MutBor Meter → ℕ → ℕ → Type 0
 MeteringAsks κs w k v = metering-reads.Asked κs (w, (k, (v, tt)))
 
+abbrev pub DayAsks : Lfts 3 → MutBor Meter → ℕ → Bor (List ℕ) → Bor (List ℕ) → Type 0
+DayAsks κs w k f v = day-reads.Asked κs (w, (k, (f, (v, tt))))
+
 abbrev pub TotalsAsks : Lfts 1 → Bor Meter → ℕ → Type 0
 TotalsAsks κs w k = totals-reads.Asked κs (w, (k, tt))
 
@@ -57,6 +67,9 @@ AnalysisReturns κs w k b r w₁ = AnalysisAsks κs w k b → analysis-reads.Lea
 
 abbrev pub MeteringReturns : Lfts 1 → MutBor Meter → ℕ → ℕ → Verdict → MutBor Meter → Type 0
 MeteringReturns κs w k v r w₁ = MeteringAsks κs w k v → metering-reads.Learnt κs (w, (k, (v, tt))) r (w₁, (k, (v, tt)))
+
+abbrev pub DayReturns : Lfts 3 → MutBor Meter → ℕ → Bor (List ℕ) → Bor (List ℕ) → DayAnswer → MutBor Meter → Type 0
+DayReturns κs w k f v r w₁ = DayAsks κs w k f v → day-reads.Learnt κs (w, (k, (f, (v, tt)))) r (w₁, (k, (f, (v, tt))))
 
 abbrev pub TotalsReturns : Lfts 1 → Bor Meter → ℕ → TotalsAnswer → Type 0
 TotalsReturns κs w k r = TotalsAsks κs w k → totals-reads.Learnt κs (w, (k, tt)) r (w, (k, tt))
@@ -87,12 +100,35 @@ totals_answer r = mapped totals_given (totals_meaning r)
 abbrev pub mean_answer : MeanAnswer → Answer
 mean_answer r = mapped mean_is (mean_meaning r)
 
+abbrev pub day_reply : DayAnswer → Reply
+day_reply r = counted (mapped (λ c. record { analyses = c.analyses; volumes = c.volumes }) (counts_meaning r))
+
+-- A day file answers counts alone. Its single calls have the answers that their definitions give, each on the meter as the one before
+-- leaves it.
+abbrev pub single_answer : Meter → ℕ → Ask → Answer
+single_answer m k (analysis bs) = mapped (λ (n : Meter). done) (analysis_of m k bs)
+single_answer m k (metering v) = mapped (λ (n : Meter). done) (metering_of m k v)
+single_answer m k totals = mapped totals_given (totals_of m k)
+single_answer m k (mean e) = mapped mean_is (mean_for (named e) m k)
+
+abbrev pub single_left : Meter → ℕ → Ask → Meter
+single_left m k (analysis bs) = after_analysis m k bs
+single_left m k (metering v) = after_metering m k v
+single_left m k totals = m
+single_left m k (mean e) = m
+
+abbrev pub single_answers : Meter → List Call → List Answer
+single_answers m [] = []
+single_answers m (c ∷ cs) = single_answer m c.stream c.ask ∷ single_answers (single_left m c.stream c.ask) cs
+
 -- one call of a function on a meter: the calls that it counts as, their answers, and the meter that it left
 pub data Step : Meter → List Call → List Answer → Meter → Type 0 where
   by_analysis : (κs : Lfts 2) (w : MutBor Meter) (k : ℕ) (b : Bor (List ℕ)) (r : Verdict) (w₁ : MutBor Meter) → AnalysisReturns κs w k b r w₁ →
       Step w.now (on k (analysis b.now) ∷ []) (change_answer r ∷ []) w₁.now
   by_metering : (κs : Lfts 1) (w : MutBor Meter) (k v : ℕ) (r : Verdict) (w₁ : MutBor Meter) → MeteringReturns κs w k v r w₁ →
       Step w.now (on k (metering v) ∷ []) (change_answer r ∷ []) w₁.now
+  by_day : (κs : Lfts 3) (w : MutBor Meter) (k : ℕ) (f v : Bor (List ℕ)) (r : DayAnswer) (w₁ : MutBor Meter) → DayReturns κs w k f v r w₁ →
+      Step w.now (day_calls k f.now v.now) (single_answers w.now (day_calls k f.now v.now)) w₁.now
   by_totals : (κs : Lfts 1) (w : Bor Meter) (k : ℕ) (r : TotalsAnswer) → TotalsReturns κs w k r → Step w.now (on k totals ∷ []) (totals_answer r ∷ []) w.now
   by_mean : (e : Energy) (κs : Lfts 1) (w : Bor Meter) (k : ℕ) (r : MeanAnswer) → MeanReturns e κs w k r → Step w.now (on k (mean e) ∷ []) (mean_answer r ∷ []) w.now
 
@@ -100,3 +136,27 @@ pub data Step : Meter → List Call → List Answer → Meter → Type 0 where
 pub data Run : Meter → List Call → List Answer → Meter → Type 0 where
   ended : (m : Meter) → Run m [] [] m
   after : (m m₁ m₂ : Meter) (cs₁ cs : List Call) (rs₁ rs : List Answer) → Step m cs₁ rs₁ m₁ → Run m₁ cs rs m₂ → Run m (cs₁ ++ cs) (rs₁ ++ rs) m₂
+
+-- the call of a step as it was made, and the reply that the function gave
+abbrev pub listed_by : {m m₁ : Meter} {cs : List Call} {rs : List Answer} → Step m cs rs m₁ → Listed
+listed_by (by_analysis κs w k b r w₁ got) = single (on k (analysis b.now))
+listed_by (by_metering κs w k v r w₁ got) = single (on k (metering v))
+listed_by (by_day κs w k f v r w₁ got) = day k f.now v.now
+listed_by (by_totals κs w k r got) = single (on k totals)
+listed_by (by_mean e κs w k r got) = single (on k (mean e))
+
+abbrev pub reply_by : {m m₁ : Meter} {cs : List Call} {rs : List Answer} → Step m cs rs m₁ → Reply
+reply_by (by_analysis κs w k b r w₁ got) = answered (change_answer r)
+reply_by (by_metering κs w k v r w₁ got) = answered (change_answer r)
+reply_by (by_day κs w k f v r w₁ got) = day_reply r
+reply_by (by_totals κs w k r got) = answered (totals_answer r)
+reply_by (by_mean e κs w k r got) = answered (mean_answer r)
+
+-- those of a list
+abbrev pub listed : {m m₁ : Meter} {cs : List Call} {rs : List Answer} → Run m cs rs m₁ → List Listed
+listed (ended m) = []
+listed (after m m₁ m₂ cs₁ cs rs₁ rs s more) = listed_by s ∷ listed more
+
+abbrev pub replies : {m m₁ : Meter} {cs : List Call} {rs : List Answer} → Run m cs rs m₁ → List Reply
+replies (ended m) = []
+replies (after m m₁ m₂ cs₁ cs rs₁ rs s more) = reply_by s ∷ replies more

@@ -1,12 +1,13 @@
 -- The term `tally` of document 01: what a list of calls comes to, from the calls and their arguments alone. It uses nothing of the meter
 -- and no answer of one.
-use Rattle.std.specs.Prelude.{Bool, true, false, not, ◌||◌, List, [], ◌∷◌, ◌++◌, ℕ, ◌+◌, ◌*◌, ◌/◌, ◌%◌, eqb, ltb, get_or, set, replicate}
+use Rattle.std.specs.Prelude.{Bool, true, false, not, ◌||◌, cond, List, [], ◌∷◌, ◌++◌, ℕ, ◌+◌, ◌*◌, ◌/◌, ◌%◌, eqb, ltb, length, get_or, set, replicate}
 use Rattle.std.proofs.Math.Option.{Option, none, some}
 use Rattle.rounding.specs.Near.{near}
 use Rattle.rounding.specs.Fraction.{Fraction, whole, plus, times}
-use Rattle.records.specs.Order.{Order, Outcome, first_of, decided, otherwise}
+use Rattle.records.specs.Order.{Order, Outcome, refused, accepted, first_of, decided, otherwise}
 use Rattle.records.specs.Format.{combustion_in, metering_in, contents_in}
 use Rattle.records.specs.Conditions.{record_order}
+use Rattle.day_file.specs.Format.{blocks_of, file_order}
 use Rattle.properties.specs.Chain.{Hs, Hi, rho}
 use Rattle.properties.specs.Unrounded as unrounded
 
@@ -214,3 +215,77 @@ answers_to t (c ∷ cs) = answer_to t c ∷ answers_to (tally_after t c) cs
 abbrev pub tallied : Tally → List Call → Tally
 tallied t [] = t
 tallied t (c ∷ cs) = tallied (tally_after t c) cs
+
+-- the call of document 02, W-206, that meters a day file: its conditions, written apart from those of the meter; 13, 21, 23, 19
+abbrev pub day_order_of : ℕ → List ℕ → List ℕ → Order
+day_order_of k file volumes = (13, above_last k) ∷ file_order file ++ ((19, not (eqb (length volumes) (length (blocks_of file)))) ∷ [])
+
+-- for each block first the analysis, then its volume
+abbrev pub day_pairs : ℕ → List (List ℕ) → List ℕ → List Call
+day_pairs k [] vs = []
+day_pairs k (b ∷ bs) [] = []
+day_pairs k (b ∷ bs) (v ∷ vs) = on k (analysis b) ∷ on k (metering v) ∷ day_pairs k bs vs
+
+-- the single calls that it counts as: none where it is itself refused
+abbrev pub day_calls : ℕ → List ℕ → List ℕ → List Call
+day_calls k file volumes = otherwise [] (decided (first_of (day_order_of k file volumes)) (day_pairs k (blocks_of file) volumes))
+
+-- a call as it stands in a list: a single one, or a day file with its volumes on a stream; and the single calls that it counts as
+pub data Listed : Type 0 where
+  single : Call → Listed
+  day : ℕ → List ℕ → List ℕ → Listed
+
+abbrev pub counts_as : Listed → List Call
+counts_as (single c) = c ∷ []
+counts_as (day k file volumes) = day_calls k file volumes
+
+-- the single calls of a list
+abbrev pub single_calls : List Listed → List Call
+single_calls [] = []
+single_calls (l ∷ ls) = counts_as l ++ single_calls ls
+
+-- the reply to a listed call: the answer to a single one; to a day file the number of its refusal, or how many analyses and how many
+-- volumes were accepted
+pub record Counted : Type 0 where
+  pub analyses : ℕ
+  pub volumes : ℕ
+
+pub data Reply : Type 0 where
+  answered : Answer → Reply
+  counted : Outcome Counted → Reply
+
+-- of calls with their answers, how many analyses, or meterings, were accepted
+abbrev pub is_analysis : Ask → Bool
+is_analysis (analysis bs) = true
+is_analysis (metering v) = false
+is_analysis totals = false
+is_analysis (mean e) = false
+
+abbrev pub is_metering : Ask → Bool
+is_metering (analysis bs) = false
+is_metering (metering v) = true
+is_metering totals = false
+is_metering (mean e) = false
+
+abbrev pub one_accepted : Answer → ℕ
+one_accepted (refused n) = 0
+one_accepted (accepted g) = 1
+
+abbrev pub accepted_count : (Ask → Bool) → List Call → List Answer → ℕ
+accepted_count asked [] rs = 0
+accepted_count asked (c ∷ cs) [] = 0
+accepted_count asked (c ∷ cs) (a ∷ rs) = cond (asked c.ask) (one_accepted a + accepted_count asked cs rs) (accepted_count asked cs rs)
+
+abbrev pub counted_in : List Call → List Answer → Counted
+counted_in cs rs = record { analyses = accepted_count is_analysis cs rs; volumes = accepted_count is_metering cs rs }
+
+-- the tally's reply; a day file's counts are those of its single calls
+abbrev pub reply_to : Tally → Listed → Reply
+reply_to t (single c) = answered (answer_to t c)
+reply_to t (day k file volumes) =
+    let cs = day_calls k file volumes in
+    counted (decided (first_of (day_order_of k file volumes)) (counted_in cs (answers_to t cs)))
+
+abbrev pub replies_to : Tally → List Listed → List Reply
+replies_to t [] = []
+replies_to t (l ∷ ls) = reply_to t l ∷ replies_to (tallied t (counts_as l)) ls
