@@ -14,7 +14,7 @@ use Rattle.meter.specs.State.{SoundStream, Sound, fresh_meter, with_stream}
 use Rattle.meter.specs.Calls.{analysis_of, metering_of}
 use Rattle.meter.specs.Days.{Day, turned, left_in, day_of}
 use Rattle.meter.proofs.Kept.{fresh_is_sound, sound_after_analysis, sound_after_metering, sound_after_day}
-use Rattle.lent_meter.specs.Words.{packed_totals, analysis_words, packed_stream, packed, stream_in}
+use Rattle.lent_meter.specs.Words.{packed_totals, analysis_words, packed_stream, packed, stream_in, meter_in}
 use Rattle.lent_meter.specs.Lent.{LentRow, Lent, OnWords, Leaves}
 use Rattle.lent_meter.specs.Kept.{FreshIsLent, AnalysisKeepsLent, MeteringKeepsLent, DayKeepsLent, PackedIsInjective}
 use Rattle.lent_meter.proofs.Outcomes.{left_alone, leaves_others}
@@ -74,7 +74,8 @@ streams_back : (l : List Stream) → map stream_in (map packed_stream l) ≡ l
 streams_back [] = refl
 streams_back (s ∷ l) = λ i. stream_back s.analysis s.totals i ∷ streams_back l i
 
+pub meter_back : (m : Meter) → meter_in (packed m) ≡ m
+meter_back m = λ i. record { streams = streams_back m.streams i }
+
 pub packed_is_injective : PackedIsInjective
-packed_is_injective m n e =
-    let l = sym (streams_back m.streams) ∙ ap (map stream_in) e ∙ streams_back n.streams in
-    λ i. record { streams = l i }
+packed_is_injective m n e = sym (meter_back m) ∙ ap meter_in e ∙ meter_back n

@@ -77,6 +77,10 @@ analysis_in (suc n) row = Some (gas_in row)
 abbrev pub stream_in : List ℕ → Stream
 stream_in row = record { analysis = analysis_in (get_or row 0 0) row; totals = totals_in row }
 
+-- the meter that words hold
+abbrev pub meter_in : List (List ℕ) → Meter
+meter_in words = record { streams = map stream_in words }
+
 -- a row with words in it from the i-th on, every other word as it was
 abbrev pub words_from : List ℕ → ℕ → List ℕ → List ℕ
 words_from row i [] = row

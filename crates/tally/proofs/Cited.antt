@@ -4,12 +4,14 @@ use borrow.Fn.Picked.{KnownAs}
 use Rattle.meter.proofs.Meter.new as fresh
 use Rattle.meter.proofs.Meter.analysis as analysis
 use Rattle.meter.proofs.Meter.metering as metering
+use Rattle.meter.proofs.Meter.day as day
 use Rattle.meter.proofs.Meter.totals as totals
 use Rattle.meter.proofs.Meter.mean as mean
 use Rattle.loonstool.proofs.loonstool_meter_fresh as lent-fresh
 use Rattle.loonstool.proofs.loonstool_meter_check as lent-check
 use Rattle.loonstool.proofs.loonstool_meter_analysis as lent-analysis
 use Rattle.loonstool.proofs.loonstool_meter_metering as lent-metering
+use Rattle.loonstool.proofs.loonstool_meter_day as lent-day
 use Rattle.loonstool.proofs.loonstool_meter_totals as lent-totals
 use Rattle.loonstool.proofs.loonstool_meter_mean as lent-mean
 use Rattle.loonstool.proofs.loonstool_meter_mean_inferior as lent-mean-inferior
@@ -31,6 +33,12 @@ metering_proved = metering.Met.met
 
 pub metering_read : KnownAs 1 metering.Kinds.ps metering.Kinds.r metering.Reads.Ghost metering.Reads.requires metering.Reads.ensures metering.Reads.Asked metering.Reads.Learnt
 metering_read = metering.Reads.known
+
+pub day_proved : {M : Type 1} → day.Statement.statement M
+day_proved = day.Met.met
+
+pub day_read : KnownAs 3 day.Kinds.ps day.Kinds.r day.Reads.Ghost day.Reads.requires day.Reads.ensures day.Reads.Asked day.Reads.Learnt
+day_read = day.Reads.known
 
 pub totals_proved : {M : Type 1} → totals.Statement.statement M
 totals_proved = totals.Met.met
@@ -67,6 +75,12 @@ lent_metering_proved = lent-metering.Met.met
 
 pub lent_metering_read : KnownAs 1 lent-metering.Kinds.ps lent-metering.Kinds.r lent-metering.Reads.Ghost lent-metering.Reads.requires lent-metering.Reads.ensures lent-metering.Reads.Asked lent-metering.Reads.Learnt
 lent_metering_read = lent-metering.Reads.known
+
+pub lent_day_proved : {M : Type 1} → lent-day.Statement.statement M
+lent_day_proved = lent-day.Met.met
+
+pub lent_day_read : KnownAs 4 lent-day.Kinds.ps lent-day.Kinds.r lent-day.Reads.Ghost lent-day.Reads.requires lent-day.Reads.ensures lent-day.Reads.Asked lent-day.Reads.Learnt
+lent_day_read = lent-day.Reads.known
 
 pub lent_totals_proved : {M : Type 1} → lent-totals.Statement.statement M
 lent_totals_proved = lent-totals.Met.met

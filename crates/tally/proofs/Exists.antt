@@ -1,11 +1,11 @@
 -- The claim is not empty: there is a fresh meter, and every list of calls has a run from every meter.
-use mathlib.Core.Path.{◌≡◌, refl, sym, ◌∙◌}
+use mathlib.Core.Path.{◌≡◌, refl, sym, ap, ◌∙◌}
 use mathlib.Core.Bool.{true}
 use mathlib.Core.List.{List, [], ◌∷◌, ◌++◌}
 use Prim.Native.Nat.{ℕ}
 use lib.ListN.{length}
 use denote.Ref.{Bor, MutBor}
-use Rattle.records.specs.Order.{Order, first_of, decided, otherwise}
+use Rattle.records.specs.Order.{Order, first_of, decided, otherwise, mapped}
 use Rattle.records.specs.Refusals.{Verdict}
 use Rattle.records.specs.Answers.{Gives}
 use Rattle.properties.specs.declared.quantities.Quantity.{Quantity}
@@ -18,13 +18,14 @@ use Rattle.meter.specs.declared.StreamTotals.{StreamTotals}
 use Rattle.meter.specs.State.{fresh_meter, stream_at, with_stream}
 use Rattle.meter.specs.Conditions.{analysis_order, metering_order, totals_order, mean_order, day_order}
 use Rattle.meter.specs.Calls.{analysed, metered, totals_of, mean_in}
-use Rattle.meter.specs.Days.{Day, meter_day, day_of, left_in, GivesDay}
+use Rattle.meter.specs.Days.{Day, meter_day, day_of, left_in, counts_meaning, GivesDay}
 use Rattle.meter.specs.Answers.{totals_meaning, mean_meaning}
 use Rattle.tally.specs.Tally.{Energy, Ask, analysis, metering, totals, mean, on, Answer, Listed, single, day, counts_as, single_calls}
 use Rattle.tally.specs.Run.{DayAnswer, TotalsAnswer, MeanAnswer, Step, by_analysis, by_metering, by_day, by_totals, by_mean, listed_by, ended, after}
 use Rattle.tally.specs.Demand.{EveryListHasRun, HasFresh}
 use Rattle.tally.proofs.Answers.{known, answer_with, answered_by, verdict_with, gives_by}
 use Rattle.tally.proofs.Energies.{register_of, mean_for, mean_returned}
+use Rattle.tally.proofs.Steps.{counted_of}
 
 pub has_fresh : HasFresh
 has_fresh = record { meter = fresh_meter; returns = λ p. refl }
@@ -74,6 +75,14 @@ day_with m k file vs = answer_with (first_of (day_order k file (length vs))) (me
 
 abbrev pub day_left : Meter → ℕ → List ℕ → List ℕ → Meter
 day_left m k file vs = otherwise m (left_in (day_of m k file vs))
+
+pub day_with_means : (m : Meter) (k : ℕ) (file vs : List ℕ) →
+    mapped counted_of (counts_meaning (day_with m k file vs)) ≡ decided (first_of (day_order k file (length vs))) (counted_of (meter_day k m (blocks_of file) vs).counts)
+unfolding day_with
+day_with_means m k file vs =
+    let o = day_order k file (length vs) in
+    let c = (meter_day k m (blocks_of file) vs).counts in
+    ap (mapped counted_of) (answered_by (λ (x : Counts). x) c o refl) ∙ mapped_decided counted_of (first_of o) c
 
 pub day_gives : (m : Meter) (k : ℕ) (file vs : List ℕ) → GivesDay (day_of m k file vs) m (day_with m k file vs) (day_left m k file vs)
 unfolding day_with

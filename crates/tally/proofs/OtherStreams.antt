@@ -2,7 +2,7 @@
 -- tally; and at most one stream is alike to what the tally keeps for one.
 use mathlib.Core.Path.{◌≡◌, refl, sym, ap, subst, ◌∙◌}
 use mathlib.Core.Bool.{Bool, true, false, not, cond, true≢false}
-use mathlib.Core.List.{List, [], ◌∷◌, map}
+use mathlib.Core.List.{List, [], ◌∷◌, ◌++◌, map}
 use mathlib.Core.Option.{Option, none, some}
 use Prim.Native.Nat.{ℕ, zero, suc, ◌≤◌, ◌<◌}
 use native.Mathlib.Omega.{arith}
@@ -13,6 +13,7 @@ use denote.Ref.{MutBor}
 use Rattle.std.specs.Prelude.{Option as InForce, Some, None}
 use Rattle.std.proofs.lemmas.List.{ext_get_or}
 use Rattle.records.specs.Order.{refused, first_of, decided, otherwise}
+use Rattle.day_file.specs.Format.{blocks_of}
 use Rattle.properties.specs.Chain.{six_of}
 use Rattle.properties.specs.Answers.{numbers}
 use Rattle.properties.proofs.Outcomes.{clear_of_accepted}
@@ -20,19 +21,20 @@ use Rattle.meter.specs.declared.Gas.{Gas}
 use Rattle.meter.specs.declared.Register.{Register}
 use Rattle.meter.specs.declared.StreamTotals.{StreamTotals}
 use Rattle.meter.specs.declared.Stream.{Stream}
+use Rattle.meter.specs.declared.Meter.{Meter}
 use Rattle.meter.specs.State.{fresh_stream, fresh_meter, stream_at}
 use Rattle.meter.specs.Calls.{gas_of}
 use Rattle.lent_meter.specs.Words.{packed_stream, packed}
 use Rattle.meter.proofs.Analyses.{gas_is}
 use Rattle.lent_meter.proofs.Outcomes.{row_is}
 use Rattle.lent_meter.proofs.Kept.{fresh_is_lent}
-use Rattle.tally.specs.Tally.{last_stream, Ask, analysis, metering, totals, mean, Call, Parts, Totals, totals_are, Answer, StreamTally, fresh_stream_tally, Tally, fresh_tally, tally_at, with_tally, above_last, order_of, left_by, given_by, number_for, answer_to, tally_after, answers_to, tallied}
+use Rattle.tally.specs.Tally.{last_stream, Ask, analysis, metering, totals, mean, Call, on, Parts, Totals, totals_are, Answer, StreamTally, fresh_stream_tally, Tally, fresh_tally, tally_at, with_tally, above_last, order_of, left_by, given_by, number_for, answer_to, tally_after, answers_to, tallied, day_order_of, day_pairs, day_calls, Listed, single, day, counts_as, single_calls, Reply, answered, counted, counted_in, reply_to, replies_to}
 use Rattle.tally.specs.Demand.{SameInForce, nothing, known}
-use Rattle.tally.specs.Run.{totals_given}
+use Rattle.tally.specs.Run.{totals_given, listed, replies}
 use Rattle.tally.specs.LentRun.{Words, LentDemand}
-use Rattle.tally.specs.OtherStreams.{calls_on, answers_on, only, of_the_meter, RanFresh, OtherStreams, ChosenStreams, AsIfAlone, AboveRefused, AboveChangesNothing, LentRanFresh, LentOtherStreams, MixedOtherStreams, LentAboveRefused, LentAboveChangesNothing, EveryListRanFresh}
+use Rattle.tally.specs.OtherStreams.{calls_on, answers_on, stream_of, listed_on, replies_on, only, of_the_meter, RanFresh, OtherStreams, ChosenStreams, ListedOnStreams, AsIfAlone, AboveRefused, reply_13, AboveReplied, AboveChangesNothing, LentRanFresh, LentOtherStreams, LentListedOnStreams, MixedOtherStreams, LentAboveRefused, LentAboveChangesNothing, EveryListRanFresh}
 use Rattle.tally.proofs.Alike.{Alike, totals_alike}
-use Rattle.tally.proofs.Demand.{from_fresh}
+use Rattle.tally.proofs.Demand.{from_fresh, demand3}
 use Rattle.tally.proofs.Exists.{to_mut, has_fresh, every_list_has_run}
 use Rattle.tally.proofs.LentRuns.{lent_demand3}
 use Rattle.tally.proofs.LentExists.{every_list_has_lent_run}
@@ -99,6 +101,87 @@ module _ (chosen : ℕ → Bool) where
           let r = rest u (put_in_first a (number_for t c) c.stream (left_by c.ask (tally_at t c.stream)) e) in
           record { agree = r.agree; answers = r.answers }
 
+  -- of all the calls of a list on one stream, all or none are chosen
+  pairs_chosen : (k : ℕ) (b : Bool) → chosen k ≡ b → (bs : List (List ℕ)) (vs : List ℕ) → calls_on chosen (day_pairs k bs vs) ≡ cond b (day_pairs k bs vs) []
+  pairs_chosen k true e [] vs = refl
+  pairs_chosen k false e [] vs = refl
+  pairs_chosen k true e (x ∷ bs) [] = refl
+  pairs_chosen k false e (x ∷ bs) [] = refl
+  pairs_chosen k true e (x ∷ bs) (v ∷ vs) = rw e (ap (λ (cs : List Call). on k (analysis x) ∷ on k (metering v) ∷ cs) (pairs_chosen k true e bs vs))
+  pairs_chosen k false e (x ∷ bs) (v ∷ vs) = rw e (pairs_chosen k false e bs vs)
+
+  counted_chosen : (l : Listed) (b : Bool) → chosen (stream_of l) ≡ b → calls_on chosen (counts_as l) ≡ cond b (counts_as l) []
+  counted_chosen (single c) true e = rw e
+  counted_chosen (single c) false e = rw e
+  counted_chosen (day k file vs) b e = go (first_of (day_order_of k file vs))
+    where
+      go : (n : ℕ) → calls_on chosen (otherwise [] (decided n (day_pairs k (blocks_of file) vs))) ≡ cond b (otherwise [] (decided n (day_pairs k (blocks_of file) vs))) []
+      go zero = pairs_chosen k b e (blocks_of file) vs
+      go (suc n) = cond_same b
+        where
+          cond_same : (b : Bool) → ◌≡◌ {A = List Call} [] (cond b [] [])
+          cond_same true = refl
+          cond_same false = refl
+
+  -- so the calls of the chosen part of a list are the chosen part of its calls
+  calls_join : (cs ds : List Call) → calls_on chosen (cs ++ ds) ≡ calls_on chosen cs ++ calls_on chosen ds
+  calls_join [] ds = refl
+  calls_join (c ∷ cs) ds = go (chosen c.stream) (calls_on chosen cs) (calls_join cs ds)
+    where
+      go : (b : Bool) (ys : List Call) {xs : List Call} → xs ≡ ys ++ calls_on chosen ds → cond b (c ∷ xs) xs ≡ cond b (c ∷ ys) ys ++ calls_on chosen ds
+      go true ys e = ap (◌∷◌ c) e
+      go false ys e = e
+
+  calls_of_listed : (ls : List Listed) → calls_on chosen (single_calls ls) ≡ single_calls (listed_on chosen ls)
+  calls_of_listed [] = refl
+  calls_of_listed (l ∷ ls) =
+      calls_join (counts_as l) (single_calls ls)
+      ∙ go (chosen (stream_of l)) refl (listed_on chosen ls) (calls_of_listed ls)
+    where
+      go : (b : Bool) → chosen (stream_of l) ≡ b → (ms : List Listed) {xs : List Call} → xs ≡ single_calls ms →
+          calls_on chosen (counts_as l) ++ xs ≡ single_calls (cond b (l ∷ ms) ms)
+      go true e ms rest = rw (counted_chosen l true e, rest)
+      go false e ms rest = rw (counted_chosen l false e, rest)
+
+  itself : (t : Tally) → Agree t t
+  itself t = record { count = refl; each = λ k c. refl }
+
+  -- one listed call on a chosen stream, and one on another
+  module _ {t u : Tally} (a : Agree t u) (l : Listed) where
+    same_reply : chosen (stream_of l) ≡ true → reply_to t l ≡ reply_to u l
+    same_reply named = go l named
+      where
+        same_answers : (cs : List Call) → calls_on chosen cs ≡ cs → answers_to t cs ≡ answers_to u cs
+        same_answers cs e =
+            ap (answers_to t) (sym e) ∙ sym (projected cs (itself t)).answers
+            ∙ (projected cs a).answers ∙ ap (answers_to u) e
+
+        go : (l : Listed) → chosen (stream_of l) ≡ true → reply_to t l ≡ reply_to u l
+        go (single c) named = ap answered (same_answer a c named)
+        go (day k file vs) named =
+            let cs = day_calls k file vs in
+            ap (λ (rs : List Answer). counted (decided (first_of (day_order_of k file vs)) (counted_in cs rs))) (same_answers cs (counted_chosen (day k file vs) true named))
+
+    same_after_listed : chosen (stream_of l) ≡ true → Agree (tallied t (counts_as l)) (tallied u (counts_as l))
+    same_after_listed named =
+        subst (λ (cs : List Call). Agree (tallied t (counts_as l)) (tallied u cs)) (counted_chosen l true named) (projected (counts_as l) a).agree
+
+    other_after_listed : chosen (stream_of l) ≡ false → Agree (tallied t (counts_as l)) u
+    other_after_listed other =
+        subst (λ (cs : List Call). Agree (tallied t (counts_as l)) (tallied u cs)) (counted_chosen l false other) (projected (counts_as l) a).agree
+
+  replies_projected : (ls : List Listed) {t u : Tally} → Agree t u → replies_on chosen ls (replies_to t ls) ≡ replies_to u (listed_on chosen ls)
+  replies_projected [] a = refl
+  replies_projected (l ∷ ls) {t} {u} a = go (chosen (stream_of l)) refl (listed_on chosen ls) (λ v b. replies_projected ls b)
+    where
+      after : Tally
+      after = tallied t (counts_as l)
+
+      go : (b : Bool) → chosen (stream_of l) ≡ b → (ms : List Listed) {given : List Reply} → ((v : Tally) → Agree after v → given ≡ replies_to v ms) →
+          cond b (reply_to t l ∷ given) given ≡ replies_to u (cond b (l ∷ ms) ms)
+      go true e ms rest = cc (same_reply a l e, rest (tallied u (counts_as l)) (same_after_listed a l e))
+      go false e ms rest = rest u (other_after_listed a l e)
+
 -- the gas in force is that of the tally's record
 abbrev gas_in_force : Option (List ℕ) → InForce Gas
 gas_in_force none = None
@@ -130,7 +213,7 @@ same_stream {s} {r} {l} a b =
 
 pub as_if_alone : AsIfAlone
 as_if_alone chosen cs rs m a =
-    let p = projected chosen cs (record { count = refl; each = λ k c. refl }) in
+    let p = projected chosen cs (itself chosen fresh_tally) in
     record { answers = ap (answers_on chosen cs) (from_fresh a.made a.ran).answers ∙ p.answers; tally = p.agree.each }
 
 pub chosen_streams : ChosenStreams
@@ -146,6 +229,25 @@ chosen_streams chosen cs ds rs ss m n a b same =
             stream = same_stream (subst (Alike (stream_at m k)) tally ((from_fresh a.made a.ran).linked.each k)) ((from_fresh b.made b.ran).linked.each k);
             tally = tally;
           };
+    }
+
+-- the replies to the calls on chosen streams, of a run from a fresh meter
+listed_alone : (chosen : ℕ → Bool) {cs : List Call} {rs : List Answer} {m : Meter} (a : RanFresh cs rs m) →
+    replies_on chosen (listed a.ran) (replies a.ran) ≡ replies_to fresh_tally (listed_on chosen (listed a.ran))
+listed_alone chosen {cs} {rs} {m} a =
+    let d = demand3 a.first m cs rs a.made a.ran in
+    ap (replies_on chosen (listed a.ran)) d.replies_are ∙ replies_projected chosen (listed a.ran) (itself chosen fresh_tally)
+
+calls_alone : (chosen : ℕ → Bool) {cs : List Call} {rs : List Answer} {m : Meter} (a : RanFresh cs rs m) →
+    calls_on chosen cs ≡ single_calls (listed_on chosen (listed a.ran))
+calls_alone chosen {cs} {rs} {m} a =
+    ap (calls_on chosen) (demand3 a.first m cs rs a.made a.ran).calls ∙ calls_of_listed chosen (listed a.ran)
+
+pub listed_on_streams : ListedOnStreams
+listed_on_streams chosen cs ds rs ss m n a b same =
+    record {
+      replies = listed_alone chosen a ∙ ap (replies_to fresh_tally) same ∙ sym (listed_alone chosen b);
+      single = chosen_streams chosen cs ds rs ss m n a b (calls_alone chosen a ∙ ap single_calls same ∙ sym (calls_alone chosen b));
     }
 
 pub other_streams : OtherStreams
@@ -172,6 +274,23 @@ each_refused t (c ∷ cs) = go (above_last c.stream) refl (calls_on above_last c
 pub above_refused : AboveRefused
 above_refused cs rs m a = ap (answers_on above_last cs) (from_fresh a.made a.ran).answers ∙ each_refused fresh_tally cs
 
+listed_refused : (t : Tally) (l : Listed) → above_last (stream_of l) ≡ true → reply_to t l ≡ reply_13 l
+listed_refused t (single c) e = ap answered (refused_above c.stream c.ask (tally_at t c.stream) e (given_by c.ask (tally_at t c.stream)))
+listed_refused t (day k file vs) e = rw e
+
+each_replied : (t : Tally) (ls : List Listed) → replies_on above_last ls (replies_to t ls) ≡ map reply_13 (listed_on above_last ls)
+each_replied t [] = refl
+each_replied t (l ∷ ls) = go (above_last (stream_of l)) refl (listed_on above_last ls) (each_replied (tallied t (counts_as l)) ls)
+  where
+    go : (b : Bool) → above_last (stream_of l) ≡ b → (ms : List Listed) {given : List Reply} → given ≡ map reply_13 ms →
+        cond b (reply_to t l ∷ given) given ≡ map reply_13 (cond b (l ∷ ms) ms)
+    go true e ms rest = cc (listed_refused t l e, rest)
+    go false e ms rest = rest
+
+pub above_replied : AboveReplied
+above_replied cs rs m a =
+    ap (replies_on above_last (listed a.ran)) (demand3 a.first m cs rs a.made a.ran).replies_are ∙ each_replied fresh_tally (listed a.ran)
+
 pub above_changes_nothing : AboveChangesNothing
 above_changes_nothing cs ds rs ss m n a b same =
     let s = chosen_streams of_the_meter cs ds rs ss m n a b same in
@@ -187,7 +306,7 @@ above_changes_nothing cs ds rs ss m n a b same =
 
 -- a list of calls on words is one on the meter that they hold
 module _ {cs : List Call} {rs : List Answer} {w : Words} (a : LentRanFresh cs rs w) where
-  held : LentDemand a.new.now cs rs w
+  held : LentDemand a.new.now cs rs w a.ran
   held = lent_demand3 a.lifetimes a.old a.new cs rs w a.filled a.ran
 
   on_meter : RanFresh cs rs held.meter
@@ -206,6 +325,18 @@ lent_other_streams k low cs ds rs ss w v a b same =
     let s = mixed_other_streams k low cs ds rs ss (held a).meter v (on_meter a) b same in
     record { answers = s.answers; row = row_held a k low ∙ s.row }
 
+pub lent_listed_on_streams : LentListedOnStreams
+unfolding on_meter held
+lent_listed_on_streams chosen cs ds rs ss w v a b same =
+    let x = held a in
+    let y = held b in
+    let s = listed_on_streams chosen cs ds rs ss x.meter y.meter (on_meter a) (on_meter b)
+    (sym (ap (listed_on chosen) x.same_listed) ∙ same ∙ ap (listed_on chosen) y.same_listed) in
+    record {
+      replies = rw (x.same_listed, x.same_replies, y.same_listed, y.same_replies) s.replies;
+      rows = λ k low c. row_held a k low ∙ ap packed_stream (s.single.stored k low c).stream ∙ sym (row_held b k low);
+    }
+
 pub lent_above_refused : LentAboveRefused
 lent_above_refused cs rs w a = above_refused cs rs (held a).meter (on_meter a)
 
@@ -217,11 +348,21 @@ lent_above_changes_nothing cs ds rs ss w v a b same =
 pub every_list_ran_fresh : EveryListRanFresh
 every_list_ran_fresh =
     record {
-      on_meter = λ cs.
-          let r = every_list_has_run has_fresh.meter cs in
-          record { answers = r.answers; meter = r.meter; ran = record { first = has_fresh.meter; made = has_fresh.returns; ran = r.run } };
-      on_words = λ cs.
+      on_meter = λ ls.
+          let r = every_list_has_run has_fresh.meter ls in
+          record {
+            answers = r.answers;
+            meter = r.meter;
+            ran = record { first = has_fresh.meter; made = has_fresh.returns; ran = r.run };
+            as_listed = r.as_listed;
+          };
+      on_words = λ ls.
           let w : MutBor Words = to_mut (packed fresh_meter) in
-          let r = every_list_has_lent_run w.now cs fresh_is_lent in
-          record { answers = r.answers; words = r.words; ran = record { lifetimes = ([], tt); old = w; new = w; filled = λ p. refl; ran = r.run } };
+          let r = every_list_has_lent_run w.now ls fresh_is_lent in
+          record {
+            answers = r.answers;
+            words = r.words;
+            ran = record { lifetimes = ([], tt); old = w; new = w; filled = λ p. refl; ran = r.run };
+            as_listed = r.as_listed;
+          };
     }

@@ -144,7 +144,7 @@ one_counted : (o : Outcome Meter) → one_of o ≡ one_accepted (mapped (λ (x :
 one_counted (refused n) = refl
 one_counted (accepted m) = refl
 
-abbrev counted_of : Counts → Counted
+abbrev pub counted_of : Counts → Counted
 counted_of c = record { analyses = c.analyses; volumes = c.volumes }
 
 counts_are : (k : ℕ) (bs : List (List ℕ)) (vs : List ℕ) (m : Meter) →
@@ -155,10 +155,10 @@ counts_are k (b ∷ bs) (v ∷ vs) m =
     let m₁ = after_analysis m k b in
     let rest = counts_are k bs vs (after_metering m₁ k v) in
     λ i.
-        record {
-          analyses = one_counted (analysis_of m k b) i + (rest i).analyses;
-          volumes = one_counted (metering_of m₁ k v) i + (rest i).volumes;
-        }
+    record {
+      analyses = one_counted (analysis_of m k b) i + (rest i).analyses;
+      volumes = one_counted (metering_of m₁ k v) i + (rest i).volumes;
+    }
 
 -- a day file: as its single calls, or as none where it is refused
 module _ (k : ℕ) (file vs : List ℕ) (m : Meter) (t : Tally) (h : Linked m t) where
