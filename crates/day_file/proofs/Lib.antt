@@ -2,3 +2,4 @@ pub mod Splits
 pub mod Counting
 pub mod Walks
 pub mod Made
+mod Cases

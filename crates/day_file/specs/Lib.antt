@@ -1,3 +1,4 @@
 pub mod Format
 pub mod Walk
 pub mod Answers
+pub mod Cases

@@ -1,7 +1,7 @@
 -- The walk of a day file: what stands at an offset. And that the walk from the first block visits each block of the file once, in order, and
 -- ends.
 use Rattle.std.specs.Prelude.{◌≡◌, Bool, ◌&&◌, ◌||◌, cond, List, [], ◌∷◌, ◌++◌, ℕ, ◌+◌, ◌≤◌, eqb, ltb, length, take, drop, Option, Some, None}
-use Rattle.records.specs.Order.{Order, Outcome, refused, accepted, first_of, decided, mapped}
+use Rattle.records.specs.Order.{Order, Outcome, refused, accepted, first_of, numbers_of, decided, mapped}
 use Rattle.records.specs.Format.{Bytes}
 use Rattle.day_file.specs.Format.{first_block, no_day_file, length_in, block_in, no_block, blocks_of, file_order, file_of, EachFits}
 
@@ -16,6 +16,13 @@ cut_at file at = ltb at (length file) && no_block (drop at file)
 -- the walk tries 21, 22, 23
 abbrev pub walk_order : List ℕ → ℕ → Order
 walk_order file at = (21, no_day_file file) ∷ (22, offset_outside file at) ∷ (23, cut_at file at) ∷ []
+
+abbrev pub WalkNumbers : Type 0
+WalkNumbers = (file : List ℕ) (at : ℕ) → numbers_of (walk_order file at) ≡ 21 ∷ 22 ∷ 23 ∷ []
+
+-- and a whole file 21, 23
+abbrev pub FileNumbers : Type 0
+FileNumbers = (file : List ℕ) → numbers_of (file_order file) ≡ 21 ∷ 23 ∷ []
 
 -- what stands at an offset: a block, with the offset after it, or the end of the file
 pub data Place : Type 0 where

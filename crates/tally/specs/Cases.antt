@@ -1,7 +1,7 @@
--- The cases K1 to K10 of document 01, K9 among calls on other streams, a computed one of the inferior energy and the mass, and the records
--- of `limit_cases` as analyses, as one list, and one test over the definitions that computes to true over the whole list. Values per
+-- The cases K1 to K10 of document 01, K9 among calls on other streams, a computed one of the inferior energy and the mass, day files, and
+-- the records of `limit_cases` as analyses, as one list, and one test over the definitions that computes to true over the whole list. Values per
 -- kilogram stand in crates/properties/specs/Cases.antt.
-use Rattle.std.specs.Prelude.{◌≡◌, Bool, true, ◌&&◌, List, [], ◌∷◌, map, length, ℕ, ◌*◌, ◌-◌, eqb, leb, ℤ, pos, nat_abs, ◌-ℤ◌}
+use Rattle.std.specs.Prelude.{◌≡◌, Bool, true, false, ◌&&◌, List, [], ◌∷◌, map, length, take, ℕ, ◌*◌, ◌-◌, eqb, leb, ℤ, pos, nat_abs, ◌-ℤ◌}
 use Rattle.components.specs.Table.{entry_of}
 use Rattle.components.specs.Table as table
 use Rattle.components.specs.Rule.{atoms_of, water_heat, allowance, excess}
@@ -10,9 +10,10 @@ use Rattle.records.specs.Order.{refused, accepted, decided, mapped}
 use Rattle.records.specs.Format.{bytes_of}
 use Rattle.records.specs.Cases.{same_list, same_outcome, annex_d, k2}
 use Rattle.records.specs.Cases as on-record
+use Rattle.day_file.specs.Format.{file_of}
 use Rattle.properties.specs.Chain.{Six, properties_of}
 use Rattle.properties.specs.Cases.{same_six, printed1, printed2}
-use Rattle.tally.specs.Tally.{superior, inferior, analysis, metering, totals, mean, Call, on, Totals, Given, done, totals_are, mean_is, Answer, Tally, fresh_tally, above_last, answer_to, tally_after}
+use Rattle.tally.specs.Tally.{superior, inferior, analysis, metering, totals, mean, Call, on, Totals, Given, done, totals_are, mean_is, Answer, Tally, fresh_tally, above_last, answer_to, tally_after, tallied, Listed, single, day, counts_as, Counted, Reply, answered, counted, reply_to}
 use Rattle.tally.specs.OtherStreams.{calls_on, of_the_meter, calls_of, answers_of}
 
 -- figures of the rule of the component table: a line, the place of a temperature among 25, 20, 15 and 0 °C, the line's h superior and
@@ -35,6 +36,8 @@ pub data Case : Type 0 where
   number : on-record.Case → Case
   -- calls from a fresh meter, each with its answer
   calls : List (Call × Answer) → Case
+  -- calls as they are listed, day files among them, each with its reply
+  listed : List (Listed × Reply) → Case
   -- the table's rule
   rule : Figures → Case
 
@@ -93,6 +96,35 @@ shared =
     ∷ (on 0 (mean superior), accepted (mean_is 37781616))
     ∷ []
 
+-- a day file with K2, an empty block and K2 again: the record of the empty block is refused by 1, and the volume beside it by 15
+abbrev pub a_day : List ℕ
+a_day = file_of (k2 ∷ [] ∷ k2 ∷ [])
+
+-- volumes for its blocks
+abbrev pub day_volumes : List ℕ
+day_volumes = 1000 ∷ 10000001 ∷ 1000 ∷ []
+
+-- the same file without its last byte, and a volume too few
+abbrev pub cut_day : List ℕ
+cut_day = take (length a_day - 1) a_day
+
+-- day files as they are listed, among single calls: refused ones, 13 before 21, 21 before 19, and 23 before 19; one of which two of three
+-- analyses and two of three volumes are accepted; and one of the same bytes on the stream 15, into which no gas at another pair comes
+abbrev pub day_list : List (Listed × Reply)
+day_list =
+    (day 16 [] [], counted (refused 13))
+    ∷ (day 0 [] day_volumes, counted (refused 21))
+    ∷ (day 0 cut_day [], counted (refused 23))
+    ∷ (day 0 a_day (1000 ∷ 1000 ∷ []), counted (refused 19))
+    ∷ (single (on 0 (mean superior)), answered (refused 18))
+    ∷ (day 0 a_day day_volumes, counted (accepted (record { analyses = 2; volumes = 2 })))
+    ∷ (single (on 0 totals), answered (accepted (totals_are after2000)))
+    ∷ (single (on 15 (analysis (bytes_of (annex_d 0 0)))), answered (accepted done))
+    ∷ (day 15 a_day day_volumes, counted (accepted (record { analyses = 0; volumes = 2 })))
+    ∷ (single (on 15 (mean superior)), answered (accepted (mean_is 41182289)))
+    ∷ (day 15 (file_of []) [], counted (accepted (record { analyses = 0; volumes = 0 })))
+    ∷ []
+
 abbrev pub cases : List Case
 cases =
     six (bytes_of (annex_d 15 15)) printed1  -- K1
@@ -110,6 +142,7 @@ cases =
     ∷ (on 15 (metering 1000), accepted done)
     ∷ (on 15 totals, accepted (totals_are after2000))
     ∷ [])  -- computed: K2's inferior energy, its mean and the mass, with 18 before the volume and 13 past the last stream
+    ∷ listed day_list
     ∷ each_analysis on-record.limit_cases  -- 10, 11 and 12 before 9, and 9 alone
     (rule (record { line = 23; place = 0; superior = 2700200; inferior = 2524100; twice = 352200; atoms = 8; water = 44016; product = 352128 })  -- K10
     ∷ []))
@@ -126,6 +159,19 @@ same_answer = same_outcome (λ (a b : Given). same_list (figures_of a) (figures_
 abbrev pub answers_hold : Tally → List (Call × Answer) → Bool
 answers_hold t [] = true
 answers_hold t ((c, a) ∷ rest) = same_answer (answer_to t c) a && answers_hold (tally_after t c) rest
+
+abbrev pub same_counted : Counted → Counted → Bool
+same_counted a b = eqb a.analyses b.analyses && eqb a.volumes b.volumes
+
+abbrev pub same_reply : Reply → Reply → Bool
+same_reply (answered a) (answered b) = same_answer a b
+same_reply (answered a) (counted b) = false
+same_reply (counted a) (answered b) = false
+same_reply (counted a) (counted b) = same_outcome same_counted a b
+
+abbrev pub replies_hold : Tally → List (Listed × Reply) → Bool
+replies_hold t [] = true
+replies_hold t ((l, r) ∷ rest) = same_reply (reply_to t l) r && replies_hold (tallied t (counts_as l)) rest
 
 abbrev pub is : ℤ → ℕ → Bool
 is z n = eqb (nat_abs (z -ℤ pos n)) 0
@@ -145,6 +191,7 @@ holds (six bs p) = same_outcome same_six (properties_of bs) (accepted p)
 holds (two bs p) = same_outcome (λ (a b : ℕ × ℕ). eqb a.0 b.0 && eqb a.1 b.1) (mapped (λ (q : Six). (q.Z, q.Hs)) (properties_of bs)) (accepted p)
 holds (number c) = on-record.case_holds c
 holds (calls cs) = answers_hold fresh_tally cs
+holds (listed ls) = replies_hold fresh_tally ls
 holds (rule f) = rule_holds f
 
 abbrev pub CasesHold : Type 0
