@@ -9,7 +9,7 @@ use Rattle.day_file.specs.Format.{first_block, no_day_file, length_in, block_in,
 abbrev pub offset_outside : List ℕ → ℕ → Bool
 offset_outside file at = ltb at first_block || ltb (length file) at
 
--- 23: the block at an offset is cut short by the file's end; at the end itself there is no block
+-- 23: block cut short by the file's end; at the end itself there is no block
 abbrev pub cut_at : List ℕ → ℕ → Bool
 cut_at file at = ltb at (length file) && no_block (drop at file)
 

@@ -235,8 +235,10 @@ impl Stream {
             let Some(block) = blocks.next() else {
                 break;
             };
-            counts.analyses += usize::from(self.analysis(block).is_ok());
-            counts.volumes += usize::from(self.metering(*volume).is_ok());
+            let analysed = self.analysis(block).is_ok();
+            let metered = self.metering(*volume).is_ok();
+            counts.analyses += usize::from(analysed);
+            counts.volumes += usize::from(metered);
         }
         counts
     }

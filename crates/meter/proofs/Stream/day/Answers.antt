@@ -15,7 +15,7 @@ loop-volume-init c =
 pub overflow_add-counts : goal.overflow_add-counts
 overflow_add-counts c =
     let vs = c.args.volumes.now in
-    omega (arith, counts_fit stream_analysis stream_metering _ _ c.loop-volume.invariant (drop_more vs c.loop-volume.volume-index 0 (omega arith)), c.from.ensures, byte_at_most c.is_ok.result)
+    omega (arith, counts_fit stream_analysis stream_metering _ _ c.loop-volume.invariant (drop_more vs c.loop-volume.volume-index 0 (omega arith)), c.from.ensures, byte_at_most c.is_ok-analysed.result)
 
 pub overflow_add-counts-in-loop-volume : goal.overflow_add-counts-in-loop-volume
 overflow_add-counts-in-loop-volume c =
@@ -24,13 +24,13 @@ overflow_add-counts-in-loop-volume c =
       arith,
       counts_fit stream_analysis stream_metering _ _ c.loop-volume.invariant (drop_more vs c.loop-volume.volume-index 0 (omega arith)),
       c.from-in-loop-volume.ensures,
-      byte_at_most c.is_ok-in-loop-volume.result,
+      byte_at_most c.is_ok-metered.result,
     )
 
 pub loop-volume-preserved : goal.loop-volume-preserved
 loop-volume-preserved c =
     let vs = c.args.volumes.now in
-    rw (c.from.ensures, c.is_ok.ensures.value, c.from-in-loop-volume.ensures, c.is_ok-in-loop-volume.ensures.value)
+    rw (c.from.ensures, c.is_ok-analysed.ensures.value, c.from-in-loop-volume.ensures, c.is_ok-metered.ensures.value)
     (one_taken stream_analysis stream_metering _ _ c.analysis.result c.metering.result c.loop-volume.invariant c.in-Some.ensures.steps
     (drop_more vs c.loop-volume.volume-index 0 (omega arith)) c.analysis.ensures c.metering.ensures)
 
