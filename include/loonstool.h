@@ -247,9 +247,9 @@ struct loonstool_block {
     size_t length;
 };
 
-/* Whether there is a block at an offset of a day file of `length` bytes, as where loonstool_day_next gives the offset after it. The call
- * fills *block with one, and else leaves it. Before the call *block must already hold bytes that may be read, at a pointer other than
- * NULL, and their number: those of the file, or of the block before. */
+/* The block at an offset of a day file of `length` bytes: true, and it is in *block, where loonstool_day_next gives the offset after it;
+ * else false, and *block stays. Before the call *block must already hold bytes that may be read, at a pointer other than NULL, and their
+ * number: those of the file, or of another block. */
 LOONSTOOL_MUST_USE
 bool loonstool_day_block(const uint8_t *file, size_t length, size_t offset, struct loonstool_block *block);
 
