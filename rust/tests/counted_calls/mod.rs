@@ -1,14 +1,17 @@
 //! How often each call of the meter gave each answer.
 
+// Each program that includes this module uses a part of it.
+#![allow(dead_code)]
+
 use crate::calls::{Answer, Call};
 use crate::comparison::Answers;
 
 /// The numbers of each order, that of both means the same, with 13 first; and the places of the calls in the counts.
-const OF_ANALYSIS: &[u8] = &[13, 1, 2, 3, 4, 5, 6, 7, 8, 10, 11, 12, 9, 14];
-const OF_METERING: &[u8] = &[13, 15, 16, 17];
+pub const OF_ANALYSIS: &[u8] = &[13, 1, 2, 3, 4, 5, 6, 7, 8, 10, 11, 12, 9, 14];
+pub const OF_METERING: &[u8] = &[13, 15, 16, 17];
 const OF_TOTALS: &[u8] = &[13];
 const OF_MEAN: &[u8] = &[13, 18];
-const OF_DAY: &[u8] = &[13, 21, 23, 19];
+pub const OF_DAY: &[u8] = &[13, 21, 23, 19];
 const ANALYSIS: usize = 0;
 const METERING: usize = 1;
 const TOTALS: usize = 2;

@@ -3,14 +3,13 @@
 // Each program that includes this module uses a part of it.
 #![allow(dead_code)]
 
-mod day;
-
-pub use day::random_day;
+pub mod day;
 
 use crate::calls::{analysis, call, Call};
 use crate::plain;
 use crate::plain::meter::{GREATEST_TOTAL, GREATEST_VOLUME};
 use crate::records::{self, hex, Random};
+use day::random_day;
 use loonstool::Totals;
 
 /// A call on one of the given streams; one of eight meters a day file.
