@@ -20,7 +20,7 @@ use cases::K2;
 use comparison::{alike, same, Answers, Comparison, Run};
 use counted_calls::{OF_ANALYSIS, OF_DAY, OF_METERING};
 use loonstool::{Meter, Next, Refusal, Words, FIRST_BLOCK, STREAMS};
-use plain::day_file::{block_at, blocks, head, made, metered, next_offset, HEAD, LENGTH};
+use plain::day_file::{block_at, blocks, file_of, head, metered, next_offset, HEAD, LENGTH};
 use plain::words::words_of;
 use random_calls::day::{random_blocks, random_day, LONGEST};
 use random_calls::{aim, filling, room, shown};
@@ -149,7 +149,7 @@ fn compare_file(
 
 /// A file with each byte of its head set to each value: the right one alone is accepted.
 fn compare_heads(counts: &mut Counts) -> Result<(), String> {
-    let right = made(&[K2]);
+    let right = file_of(&[K2]);
     for at in 0..HEAD {
         for byte in 0..=u8::MAX {
             let mut file = right.clone();
@@ -176,7 +176,7 @@ fn long_files() -> [Vec<Vec<u8>>; 2] {
 
 /// The file made of blocks is walked back to them, and metered.
 fn compare_whole(blocks: &[Vec<u8>], counts: &mut Counts) -> Result<(), String> {
-    let file = made(blocks);
+    let file = file_of(blocks);
     let mut walked = Vec::new();
     let mut offset = FIRST_BLOCK;
     while let Ok(Next::Offset(next)) = loonstool::next_offset(&file, offset) {

@@ -35,7 +35,7 @@ pub fn blocks(file: &[u8]) -> Result<Vec<&[u8]>, u8> {
 }
 
 /// A file of blocks, none longer than 65,535 bytes.
-pub fn made<B: AsRef<[u8]>>(blocks: &[B]) -> Vec<u8> {
+pub fn file_of<B: AsRef<[u8]>>(blocks: &[B]) -> Vec<u8> {
     let mut file = head().to_vec();
     for block in blocks.iter().map(B::as_ref) {
         let length = u16::try_from(block.len()).expect("its length has 16 bits");

@@ -3,7 +3,7 @@
 
 use super::random_volume;
 use crate::calls::{day, Call};
-use crate::plain::day_file::{made, HEAD, LENGTH};
+use crate::plain::day_file::{file_of, HEAD, LENGTH};
 use crate::records::{self, Random, PAIRS};
 
 /// The most bytes that a block has.
@@ -13,7 +13,7 @@ pub const LONGEST: usize = 65_535;
 pub fn random_day(random: &mut Random, streams: &[usize]) -> Call {
     let blocks = random_blocks(random);
     let volumes = random_volumes(random, blocks.len());
-    let mut file = made(&blocks);
+    let mut file = file_of(&blocks);
     let damages = match random.below(8) {
         0..=3 => 0,
         4..=6 => 1,
