@@ -223,15 +223,15 @@ fn k9_mass() {
     }
 }
 
-/// An empty block, K2, K1 at 0/0 and K2 again. A volume before the first analysis
-/// and one that is too great are refused, and so are the other two records; what
-/// is accepted makes K9.
+/// K2 between records that are refused, an empty one and K1 at 0/0; a volume before
+/// the first analysis, and at the end one that is too great, refused too. What is
+/// accepted makes K9.
 #[test]
 fn k9_in_a_day_file() {
-    let file = day_file::file_of(&[&[][..], &K2, &record(0, 0, &K1), &K2]);
-    let metering = day(0, file, vec![1_000, 400, 10_000_001, 600]);
+    let file = day_file::file_of(&[&[][..], &K2, &record(0, 0, &K1), &[]]);
+    let metering = day(0, file, vec![1_000, 400, 600, 10_000_001]);
     let accepted = Counts {
-        analyses: 2,
+        analyses: 1,
         volumes: 2,
     };
     for (mut meter, k9) in fresh_meters().into_iter().zip(k9()) {
@@ -249,7 +249,7 @@ fn day_file_refused() {
         (13, 16, cut("GCR")),
         (21, 15, cut("GCR")),
         (21, 15, b"GDF\x01".to_vec()),
-        (21, 15, b"GDF\x00\x01".to_vec()),
+        (21, 15, b"GDF\x01\x01".to_vec()),
         (23, 15, cut("GDF")),
         (23, 15, b"GDF\x01\x00\x00".to_vec()),
         (19, 15, day_file::file_of(&[K2])),
