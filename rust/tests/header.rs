@@ -12,6 +12,10 @@ const METER_WRAPPER: &str = include_str!("../src/meter.rs");
 const DAY_FILE_WRAPPER: &str = include_str!("../src/day_file.rs");
 const RECORDS: &str = include_str!("../../crates/records/specs/Conditions.antt");
 const METER: &str = include_str!("../../crates/meter/specs/Conditions.antt");
+const DAY_FILE: [&str; 2] = [
+    include_str!("../../crates/day_file/specs/Format.antt"),
+    include_str!("../../crates/day_file/specs/Walk.antt"),
+];
 const QUANTITIES: &str = include_str!("../../crates/properties/specs/Quantities.antt");
 const BOUNDS: &str = include_str!("../../crates/properties/specs/Bounds.antt");
 
@@ -45,11 +49,8 @@ fn condition(line: &str) -> Option<(u8, &str)> {
 
 #[test]
 fn conditions() {
-    let mut defined: Vec<_> = RECORDS
-        .lines()
-        .chain(METER.lines())
-        .filter_map(condition)
-        .collect();
+    let files = [RECORDS, METER].into_iter().chain(DAY_FILE);
+    let mut defined: Vec<_> = files.flat_map(str::lines).filter_map(condition).collect();
     defined.sort_unstable();
     assert_eq!(defined.len(), Refusal::ALL.len());
     for ((number, text), (_, refusal)) in defined.into_iter().zip(Refusal::ALL) {
