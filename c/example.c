@@ -1,5 +1,5 @@
 /* Meters methane on a stream and prints its totals and both means; then writes the record of the gas of annex D of ISO 6976:1995, prints
- * its properties and its calorific values per kilogram, and reads it again.
+ * its properties and its calorific values per kilogram, and reads it again; then meters a day file.
  *
  *     tools/build library
  *     cc -Iinclude c/example.c target/staticlib/libloonstool.a -o target/example && target/example
@@ -100,7 +100,45 @@ static int write_and_read(void)
     return 0;
 }
 
+/* The blocks of a day file, each with the number of its record, 0 where it is accepted. */
+static int print_blocks(const uint8_t *file, size_t length)
+{
+    struct loonstool_block block = {file, length};
+    struct loonstool_properties properties;
+    for (size_t offset = LOONSTOOL_FIRST_BLOCK, next;; offset = next) {
+        uint8_t number = loonstool_day_next(file, length, offset, &next);
+        if (number != LOONSTOOL_ACCEPTED)
+            return refused("loonstool_day_next", number);
+        if (next == LOONSTOOL_DAY_END || !loonstool_day_block(file, length, offset, &block))
+            return 0;
+        number = loonstool_properties_of(block.bytes, block.length, &properties);
+        printf("block at %zu: %zu bytes, number %" PRIu8 "\n", offset, block.length, number);
+    }
+}
+
+/* A day file of two blocks: methane, and a record of no bytes, which is refused and leaves methane in force. */
+static int meter_day(void)
+{
+    const uint8_t file[] = {'G', 'D', 'F', 1, 0, 13, 0, 'G', 'C', 'R', 1, 0, 15, 15, 1, 1, 0x40, 0x42, 0x0f, 0, 0, 0};
+    const uint64_t volumes[] = {600, 400};
+    static struct loonstool_meter meter;
+    struct loonstool_counts counts;
+    struct loonstool_totals totals;
+    if (print_blocks(file, sizeof file) != 0)
+        return 1;
+    loonstool_meter_fresh(&meter);
+    uint8_t number = loonstool_meter_day(&meter, 0, file, sizeof file, volumes, 2, &counts);
+    if (number != LOONSTOOL_ACCEPTED)
+        return refused("loonstool_meter_day", number);
+    printf("accepted: %" PRIu64 " of 2 analyses, %" PRIu64 " of 2 volumes\n", counts.analyses, counts.volumes);
+    number = loonstool_meter_totals(&meter, 0, &totals);
+    if (number != LOONSTOOL_ACCEPTED)
+        return refused("loonstool_meter_totals", number);
+    printf("volume %" PRIu64 " dm3\n", totals.volume);
+    return 0;
+}
+
 int main(void)
 {
-    return meter_methane() || write_and_read();
+    return meter_methane() || write_and_read() || meter_day();
 }

@@ -149,6 +149,20 @@ uint8_t keep_metering(struct keep *keep, size_t stream, uint64_t volume)
     return save_accepted(keep, &copy, loonstool_meter_metering(&copy.parts.meter, stream, volume));
 }
 
+uint8_t keep_day(struct keep *keep, size_t stream, const uint8_t *file, size_t length, const uint64_t *volumes, size_t count,
+                 struct loonstool_counts *counts)
+{
+    union copy copy;
+    struct loonstool_counts accepted;
+    if (!load_newer(keep, &copy))
+        return KEEP_LOST;
+    uint8_t number = loonstool_meter_day(&copy.parts.meter, stream, file, length, volumes, count, &accepted);
+    number = save_accepted(keep, &copy, number);
+    if (number == LOONSTOOL_ACCEPTED)
+        *counts = accepted;
+    return number;
+}
+
 uint8_t keep_totals(const struct keep *keep, size_t stream, struct loonstool_totals *totals)
 {
     union copy copy;

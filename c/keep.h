@@ -7,7 +7,8 @@
  *
  * A cut at any moment leaves the meter before the call or the one after it. Which of them, the counter tells: an accepted call raises it.
  * So the firmware notes the volume and `counter` of struct keep in memory that keeps before it calls keep_metering. After a restart, and
- * before any other call, the volume is booked where keep_open finds a higher counter; else it is not, and the call is made again.
+ * before any other call, the volume is booked where keep_open finds a higher counter; else it is not, and the call is made again. A day
+ * file is one call: all of it is booked then, or nothing.
  *
  * What the memory has to be: a store changes no other word, and a word reads the same until it is stored again, as in FRAM or memory with a
  * battery. Where a store erases a page, each copy has pages of its own. The word whose store a cut falls into may hold anything.
@@ -77,6 +78,10 @@ uint8_t keep_analysis(struct keep *keep, size_t stream, const uint8_t *bytes, si
 
 LOONSTOOL_MUST_USE
 uint8_t keep_metering(struct keep *keep, size_t stream, uint64_t volume);
+
+LOONSTOOL_MUST_USE
+uint8_t keep_day(struct keep *keep, size_t stream, const uint8_t *file, size_t length, const uint64_t *volumes, size_t count,
+                 struct loonstool_counts *counts);
 
 LOONSTOOL_MUST_USE
 uint8_t keep_totals(const struct keep *keep, size_t stream, struct loonstool_totals *totals);

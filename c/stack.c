@@ -1,5 +1,6 @@
-/* Prints how much stack each function takes, on a record of 55 entries, and fails where one takes more than the header says. A call runs on
- * a stack of its own that was filled with a byte before; what is not that byte any more was taken, and so are the BELOW bytes below it. */
+/* Prints how much stack each function takes, on a record of 55 entries and on a day file of 1,440 of them, and fails where one takes more
+ * than the header says. A call runs on a stack of its own that was filled with a byte before; what is not that byte any more was taken, and
+ * so are the BELOW bytes below it. */
 #define _GNU_SOURCE
 #include <stdio.h>
 #include <stdlib.h>
@@ -10,15 +11,22 @@
 
 enum { STACK = 65536, BELOW = 128, BYTES = LOONSTOOL_RECORD_BYTES(LOONSTOOL_LINES) };
 
+/* The blocks of the day file, one a minute, and its bytes. */
+enum { BLOCKS = 1440, BLOCK_BYTES = 2 + BYTES, DAY_BYTES = LOONSTOOL_FIRST_BLOCK + BLOCKS * BLOCK_BYTES };
+
 static _Alignas(16) uint8_t stack[STACK];
 static struct loonstool_properties properties;
 static struct loonstool_per_kilogram values;
 static uint8_t lines[LOONSTOOL_LINES], read_lines[LOONSTOOL_LINES], bytes[BYTES], combustion, metering;
 static uint32_t fractions[LOONSTOOL_LINES], read_fractions[LOONSTOOL_LINES];
-static size_t count;
+static size_t count, next;
 static struct loonstool_meter meter;
 static struct loonstool_totals totals;
 static uint64_t mean;
+static uint8_t day[DAY_BYTES] = {'G', 'D', 'F', 1, 0};
+static uint64_t volumes[BLOCKS];
+static struct loonstool_counts counts;
+static struct loonstool_block block = {day, DAY_BYTES};
 static uint8_t number;
 
 static void nothing(void)
@@ -81,6 +89,33 @@ static void meter_mean_inferior(void)
     number = loonstool_meter_mean_inferior(&meter, 15, &mean);
 }
 
+static void meter_day(void)
+{
+    number = loonstool_meter_day(&meter, 15, day, DAY_BYTES, volumes, BLOCKS, &counts);
+}
+
+static void day_next(void)
+{
+    number = loonstool_day_next(day, DAY_BYTES, DAY_BYTES - BLOCK_BYTES, &next);
+}
+
+static void day_block(void)
+{
+    number = !loonstool_day_block(day, DAY_BYTES, DAY_BYTES - BLOCK_BYTES, &block);
+}
+
+/* The day file of the record that was written, with a volume for each block. */
+static void make_day(void)
+{
+    for (size_t i = 0; i < BLOCKS; i++) {
+        uint8_t *place = day + LOONSTOOL_FIRST_BLOCK + i * BLOCK_BYTES;
+        place[0] = BYTES & 0xff;
+        place[1] = BYTES >> 8;
+        memcpy(place + 2, bytes, BYTES);
+        volumes[i] = i;
+    }
+}
+
 static void fail(const char *what)
 {
     perror(what);
@@ -134,5 +169,9 @@ int main(void)
     wrong |= above("loonstool_meter_mean", meter_mean, LOONSTOOL_STACK_METER_MEAN);
     wrong |= above("loonstool_meter_mean_inferior", meter_mean_inferior, LOONSTOOL_STACK_METER_MEAN_INFERIOR);
     wrong |= above("loonstool_meter_check", meter_check, LOONSTOOL_STACK_METER_CHECK);
+    make_day();
+    wrong |= above("loonstool_meter_day", meter_day, LOONSTOOL_STACK_METER_DAY);
+    wrong |= above("loonstool_day_next", day_next, LOONSTOOL_STACK_DAY_NEXT);
+    wrong |= above("loonstool_day_block", day_block, LOONSTOOL_STACK_DAY_BLOCK);
     return wrong;
 }

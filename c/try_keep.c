@@ -69,12 +69,15 @@ static uint64_t drawn_below(uint64_t limit)
     return drawn() % limit;
 }
 
-/* A call: a fresh meter, the second copy stored again, the analysis of a record of `length` bytes, or the metering of a volume. */
+enum { MOST_BLOCKS = 3, MOST_VOLUMES = MOST_BLOCKS + 1, RECORD_BYTES = LOONSTOOL_RECORD_BYTES(1) };
+
+/* A call: a fresh meter, the second copy stored again, the analysis of a record of `length` bytes, the metering of a volume, or that of a
+ * day file of `file_length` bytes with `count` volumes. */
 struct call {
-    enum { FRESH, MEND, ANALYSIS, METERING } kind;
-    size_t stream, length;
-    uint64_t volume;
-    uint8_t record[LOONSTOOL_RECORD_BYTES(1)];
+    enum { FRESH, MEND, ANALYSIS, METERING, DAY } kind;
+    size_t stream, length, file_length, count;
+    uint64_t volume, volumes[MOST_VOLUMES];
+    uint8_t record[RECORD_BYTES], file[LOONSTOOL_FIRST_BLOCK + MOST_BLOCKS * (2 + RECORD_BYTES)];
 };
 
 static const struct call fresh = {.kind = FRESH}, mend = {.kind = MEND};
@@ -91,13 +94,56 @@ static void draw_record(struct call *call)
     call->length = drawn_below(10) == 0 ? 7 : sizeof call->record;
 }
 
-static struct call draw_call(void)
+static uint64_t drawn_volume(void)
 {
     const uint64_t volumes[] = {0, 1, drawn_below(10000001), drawn_below(10000001), 10000000, 10000001};
-    struct call call = {.kind = drawn_below(5) < 2 ? ANALYSIS : METERING, .stream = drawn_below(LOONSTOOL_STREAMS + 1)};
-    call.volume = volumes[drawn_below(sizeof volumes / sizeof *volumes)];
+    return volumes[drawn_below(sizeof volumes / sizeof *volumes)];
+}
+
+/* Up to three records and a volume for each. Some files have another mark, a byte less, or a volume more. */
+static void draw_day(struct call *call)
+{
+    size_t blocks = drawn_below(MOST_BLOCKS + 1);
+    memcpy(call->file, drawn_below(20) == 0 ? "GCR\1" : "GDF\1", LOONSTOOL_FIRST_BLOCK);
+    call->file_length = LOONSTOOL_FIRST_BLOCK;
+    for (size_t i = 0; i < blocks; i++) {
+        uint8_t *place = call->file + call->file_length;
+        draw_record(call);
+        place[0] = (uint8_t)call->length;
+        place[1] = 0;
+        memcpy(place + 2, call->record, call->length);
+        call->file_length += 2 + call->length;
+    }
+    call->file_length -= drawn_below(10) == 0;
+    call->count = blocks + (drawn_below(10) == 0);
+    for (size_t i = 0; i < call->count; i++)
+        call->volumes[i] = drawn_volume();
+}
+
+static struct call draw_call(void)
+{
+    const uint64_t kind = drawn_below(6);
+    struct call call = {.kind = kind < 2 ? ANALYSIS : kind < 5 ? METERING : DAY, .stream = drawn_below(LOONSTOOL_STREAMS + 1)};
+    if (call.kind == DAY)
+        draw_day(&call);
+    call.volume = drawn_volume();
     draw_record(&call);
     return call;
+}
+
+/* The counts of a day file on the meter that is kept, and on the one that is not. */
+static struct loonstool_counts kept_counts, counts;
+
+/* What is lent for counts, before a call. */
+static void mark_counts(void)
+{
+    memset(&counts, 16, sizeof counts);
+    kept_counts = counts;
+}
+
+static bool same_counts(void)
+{
+    return memcmp(&kept_counts, &counts, sizeof counts) == 0;
 }
 
 /* The call on the meter that is kept. */
@@ -108,6 +154,8 @@ static uint8_t on_kept(struct keep *keep, const struct call *call)
         return keep_analysis(keep, call->stream, call->record, call->length);
     case METERING:
         return keep_metering(keep, call->stream, call->volume);
+    case DAY:
+        return keep_day(keep, call->stream, call->file, call->file_length, call->volumes, call->count, &kept_counts);
     case MEND:
         return keep_mend(keep);
     default:
@@ -123,6 +171,8 @@ static uint8_t on_plain(struct loonstool_meter *meter, const struct call *call)
         return loonstool_meter_analysis(meter, call->stream, call->record, call->length);
     case METERING:
         return loonstool_meter_metering(meter, call->stream, call->volume);
+    case DAY:
+        return loonstool_meter_day(meter, call->stream, call->file, call->file_length, call->volumes, call->count, &counts);
     case FRESH:
         loonstool_meter_fresh(meter);
         return LOONSTOOL_ACCEPTED;
@@ -250,9 +300,11 @@ static void try_call(const struct call *call, struct loonstool_meter *newer, str
     uint64_t image[KEEP_WORDS];
     struct keep keep;
     struct loonstool_meter after = *newer, found;
+    mark_counts();
     uint8_t number = on_plain(&after, call);
     memcpy(image, kept, sizeof image);
     size_t count = cut(call, NEVER, 0);
+    expect(same_counts(), "the counts of a day file", calls);
     memcpy(kept, image, sizeof image);
     calls++;
     if (number == LOONSTOOL_ACCEPTED)
@@ -276,6 +328,9 @@ static void flip(size_t copy, size_t bit)
     kept[copy * KEEP_COPY_WORDS + bit / 64] ^= (uint64_t)1 << bit % 64;
 }
 
+/* A day file that leaves every stream as it is. */
+static const uint8_t no_blocks[LOONSTOOL_FIRST_BLOCK] = {'G', 'D', 'F', 1, 0};
+
 /* No call is made: nothing is stored, and what is lent for an answer is as it was. */
 static void expect_lost(struct keep *keep, const char *what, size_t at)
 {
@@ -287,6 +342,8 @@ static void expect_lost(struct keep *keep, const char *what, size_t at)
     memcpy(image, kept, sizeof image);
     expect(keep_analysis(keep, 0, methane, sizeof methane) == KEEP_LOST, what, at);
     expect(keep_metering(keep, 0, 0) == KEEP_LOST, what, at);
+    mark_counts();
+    expect(keep_day(keep, 0, no_blocks, sizeof no_blocks, NULL, 0, &kept_counts) == KEEP_LOST && same_counts(), what, at);
     expect(keep_mend(keep) == KEEP_LOST, what, at);
     expect(keep_totals(keep, 0, &totals) == KEEP_LOST && memcmp(&totals, &untouched, sizeof totals) == 0, what, at);
     for (size_t i = 0; i < 2; i++)
@@ -392,7 +449,8 @@ static void try_wrong_copies(const struct loonstool_meter *newer, const struct l
     memcpy(kept, image, sizeof image);
 }
 
-/* A bit of the copy to be stored sticks: the call is accepted where it sticks at the right value, and not made where it does not. */
+/* A bit of the copy to be stored sticks: the call is accepted where it sticks at the right value, and not made where it does not. The call
+ * is one that leaves the meter as it is, keep_mend and keep_day by turns. */
 static void try_stuck(const struct loonstool_meter *newer)
 {
     uint64_t image[KEEP_WORDS];
@@ -405,7 +463,9 @@ static void try_stuck(const struct loonstool_meter *newer)
         stuck_word = (1 - keep.newer) * KEEP_COPY_WORDS + word;
         stuck_bit = (uint64_t)1 << drawn_below(64);
         kept[stuck_word] ^= stuck_bit;
-        uint8_t number = keep_mend(&keep);
+        mark_counts();
+        uint8_t number = word % 2 ? keep_mend(&keep) : keep_day(&keep, 0, no_blocks, sizeof no_blocks, NULL, 0, &kept_counts);
+        expect(same_counts() == (word % 2 || number == KEEP_LOST), "a bit that sticks, and the counts", word);
         refused += number == KEEP_LOST;
         expect(number == LOONSTOOL_ACCEPTED || number == KEEP_LOST, "a bit that sticks", word);
         expect(restart(&found) == (number == KEEP_LOST ? KEEP_DAMAGED : KEEP_WHOLE) && same(&found, newer), "a bit that sticks", word);

@@ -1,8 +1,8 @@
-/* Tries the library on bad input: null-length lists and buffers, unaligned bytes, records and buffers a byte short and shorter, streams and
- * volumes far above their limits, and each number of a record and of the meter's calls, after which all that was lent is as it was; then
- * loonstool_meter_check on every kind of damaged words. What is lent, to be read or to be filled, ends where a page begins that may not be
- * touched (but for the tests of unaligned bytes, which move it by a byte at a time), so that a read or a write past it ends the program. So
- * does a write to a meter during a call that only reads it. */
+/* Tries the library on bad input: null-length lists and buffers, unaligned bytes, records, day files and buffers a byte short and shorter,
+ * streams, volumes and offsets far above their limits, and each number of a record, of the meter's calls and of a day file, after which all
+ * that was lent is as it was; then loonstool_meter_check on every kind of damaged words. What is lent, to be read or to be filled, ends
+ * where a page begins that may not be touched (but for the tests of unaligned bytes, which move it by a byte at a time), so that a read or
+ * a write past it ends the program. So does a write to a meter during a call that only reads it. */
 #define _DEFAULT_SOURCE
 #include <stdio.h>
 #include <stdlib.h>
@@ -15,6 +15,8 @@
 _Static_assert(sizeof(struct loonstool_properties) == 6 * 8, "the library fills six numbers of 64 bits");
 _Static_assert(sizeof(struct loonstool_per_kilogram) == 2 * 8, "the library fills two numbers of 64 bits");
 _Static_assert(sizeof(struct loonstool_totals) == 7 * 8, "the library fills seven numbers of 64 bits");
+_Static_assert(sizeof(struct loonstool_counts) == 2 * 8, "the library fills two numbers of 64 bits");
+_Static_assert(sizeof(struct loonstool_block) == 2 * 8, "the library fills a pointer and a number of 64 bits");
 
 __extension__ typedef unsigned __int128 wide;
 
@@ -56,10 +58,17 @@ static __typeof__(loonstool_meter_mean) *const means[2] = {loonstool_meter_mean,
 
 static const uint8_t pairs[6][2] = {{15, 15}, {0, 0}, {15, 0}, {25, 0}, {20, 20}, {25, 20}};
 
+/* A day file of three blocks: K2, no bytes, and three bytes. Where they begin and how long they are; and the longest block. */
+enum { BLOCKS = 3, K2_AT = 7, DAY_BYTES = K2_AT + K2_BYTES + 2 + 2 + 3, LONGEST = 65535, NO_BLOCK = LONGEST + 1 };
+
+static const uint8_t day[DAY_BYTES] = {
+    'G', 'D', 'F', 1, 0, K2_BYTES, 0, 'G', 'C', 'R', 1, 0, 15, 15, 1, 1, 0x40, 0x42, 0x0f, 0, 0, 0, 3, 0, 'G', 'C', 'R'};
+static const size_t block_at[BLOCKS] = {K2_AT, DAY_BYTES - 5, DAY_BYTES - 3}, block_length[BLOCKS] = {K2_BYTES, 0, 3};
+
 static const struct loonstool_properties k1 = {997709976, 38959473, 35144879, 74087496, 60459367, 50105024};
 static const struct loonstool_per_kilogram k1_per_kilogram = {5258576, 4743699};
 
-/* What is lent to the calls, each at the end of a page of its own; for bytes, the end. */
+/* What is lent to the calls, each at the end of a page of its own; for bytes and volumes, the end. */
 static uint8_t *lines;
 static uint32_t *fractions;
 static struct loonstool_properties *properties;
@@ -71,6 +80,10 @@ static uint8_t *bytes_end;
 static struct loonstool_meter *meter;
 static struct loonstool_totals *totals;
 static uint64_t *mean;
+static uint64_t *volumes_end;
+static struct loonstool_counts *counts;
+static size_t *next;
+static struct loonstool_block *block;
 
 /* The two entries of a gas, lent to the writer. */
 static uint8_t *two_lines;
@@ -85,7 +98,7 @@ struct part {
     size_t size;
 };
 
-enum { PARTS = 9 };
+enum { PARTS = 11 };
 static struct part filled[PARTS];
 
 static unsigned checks, failures, meters, damages;
@@ -99,16 +112,16 @@ static void expect(int holds, const char *what, size_t at)
     fprintf(stderr, "try_library: failed: %s (at %zu)\n", what, at);
 }
 
-/* The end of a page; the page after it may not be touched. */
-static uint8_t *page_end(void)
+/* The end of a page, before which `size` bytes may be touched; the page after it may not. */
+static uint8_t *page_end(size_t size)
 {
-    size_t page = (size_t)sysconf(_SC_PAGESIZE);
-    uint8_t *pages = mmap(NULL, 2 * page, PROT_READ | PROT_WRITE, MAP_PRIVATE | MAP_ANONYMOUS, -1, 0);
-    if (pages == MAP_FAILED || mprotect(pages + page, page, PROT_NONE) != 0) {
+    size_t page = (size_t)sysconf(_SC_PAGESIZE), length = (size + page - 1) / page * page;
+    uint8_t *pages = mmap(NULL, length + page, PROT_READ | PROT_WRITE, MAP_PRIVATE | MAP_ANONYMOUS, -1, 0);
+    if (pages == MAP_FAILED || mprotect(pages + length, page, PROT_NONE) != 0) {
         perror("try_library: mmap");
         exit(2);
     }
-    return pages + page;
+    return pages + length;
 }
 
 /* Whether the page of the meter may be written. */
@@ -125,7 +138,7 @@ static void let_write_meter(bool may)
 /* The last `size` bytes of a page. */
 static void *lent(size_t size)
 {
-    return page_end() - size;
+    return page_end(size) - size;
 }
 
 static struct part at_page_end(size_t size)
@@ -405,6 +418,87 @@ static void expect_no_means(size_t stream, uint8_t number, const char *what)
         expect_left(means[i](meter, stream, mean), number, what, stream);
 }
 
+/* The number that the walk gives at an offset of a file, and the length of the block that is there, NO_BLOCK where none is. */
+static uint8_t right_walk(const uint8_t *file, size_t length, size_t offset, size_t *of_block)
+{
+    *of_block = NO_BLOCK;
+    if (length < 5 || memcmp(file, "GDF\1\0", 5) != 0)
+        return LOONSTOOL_NO_DAY_FILE;
+    if (offset < 5 || offset > length)
+        return LOONSTOOL_OFFSET_OUTSIDE;
+    if (offset == length)
+        return LOONSTOOL_ACCEPTED;
+    if (length - offset < 2 || length - offset - 2 < file[offset] + 256U * file[offset + 1])
+        return LOONSTOOL_BLOCK_CUT;
+    *of_block = file[offset] + 256U * file[offset + 1];
+    return LOONSTOOL_ACCEPTED;
+}
+
+/* Both calls of the walk at an offset; what they do not fill is as it was. */
+static void expect_walk(const uint8_t *file, size_t length, size_t offset, const char *what)
+{
+    static const uint8_t other[16];
+    size_t of_block;
+    const uint8_t number = right_walk(file, length, offset, &of_block);
+    const size_t after = of_block == NO_BLOCK ? LOONSTOOL_DAY_END : offset + 2 + of_block;
+    *block = (struct loonstool_block){other, sizeof other};
+    expect(loonstool_day_next(file, length, offset, next) == number, what, offset);
+    expect(loonstool_day_block(file, length, offset, block) == (of_block != NO_BLOCK), what, offset);
+    if (of_block == NO_BLOCK)
+        expect(block->bytes == other && block->length == sizeof other, what, offset);
+    else
+        expect(block->bytes == file + offset + 2 && block->length == of_block, what, offset);
+    if (number == LOONSTOOL_ACCEPTED) {
+        expect(*next == after, what, offset);
+        memset(next, 0xa5, sizeof *next);
+    }
+    expect(all_marked(), what, offset);
+}
+
+/* Every offset of a file, and some far past its end. */
+static void expect_walks(const uint8_t *file, size_t length, const char *what)
+{
+    const size_t far[] = {1 << 16, ((size_t)1 << 16) + 5, ((size_t)1 << 32) + 5, (size_t)1 << 63, SIZE_MAX - 5, SIZE_MAX - 1, SIZE_MAX};
+    for (size_t offset = 0; offset <= length + 2; offset++)
+        expect_walk(file, length, offset, what);
+    for (size_t i = 0; i < sizeof far / sizeof *far; i++)
+        expect_walk(file, length, far[i], what);
+}
+
+/* The day file cut off at every byte, at every address, with each byte changed, and with the longest block. */
+static void try_walk(void)
+{
+    uint8_t *file = bytes_end - DAY_BYTES, *longest = bytes_end - LONGEST - 2 - LOONSTOOL_FIRST_BLOCK;
+    mark_filled();
+    expect_walks(NULL, 0, "no file, at NULL");
+    for (size_t length = 0; length <= DAY_BYTES; length++)
+        expect_walks(memcpy(bytes_end - length, day, length), length, "a day file cut off");
+    for (size_t at = 0; at < 16; at++)
+        expect_walks(memcpy(file - at, day, DAY_BYTES), DAY_BYTES, "a day file at any address");
+    memcpy(file, day, DAY_BYTES);
+    for (size_t at = 0; at < DAY_BYTES; at++) {
+        for (size_t byte = 0; byte < 256; byte++) {
+            file[at] = (uint8_t)byte;
+            expect_walks(file, DAY_BYTES, "a byte changed");
+        }
+        file[at] = day[at];
+    }
+    memcpy(longest, day, LOONSTOOL_FIRST_BLOCK);
+    memset(longest + LOONSTOOL_FIRST_BLOCK, 0xff, LONGEST + 2);
+    expect_walk(longest, (size_t)(bytes_end - longest), LOONSTOOL_FIRST_BLOCK, "the longest block");
+    expect_walk(longest, (size_t)(bytes_end - longest), (size_t)(bytes_end - longest), "the end after the longest block");
+    memmove(longest + 1, longest, LOONSTOOL_FIRST_BLOCK + 2);
+    expect_walk(longest + 1, (size_t)(bytes_end - longest) - 1, LOONSTOOL_FIRST_BLOCK, "the longest block a byte short");
+}
+
+/* The day file with a number of volumes is refused on a stream by a number. */
+static void expect_no_day(size_t stream, size_t count, uint8_t number, const char *what)
+{
+    const uint8_t *file = memcpy(bytes_end - DAY_BYTES, day, DAY_BYTES);
+    const uint64_t *volumes = memset(volumes_end - count, 0, count * sizeof *volumes_end);
+    expect_left(loonstool_meter_day(meter, stream, file, DAY_BYTES, volumes, count, counts), number, what, stream);
+}
+
 static const uint64_t far_streams[] = {16, 17, 255, 256, 1ULL << 32, (1ULL << 32) + 3, 1ULL << 63, UINT64_MAX};
 static const uint64_t far_volumes[] = {10000001, 1ULL << 32, (1ULL << 32) + 1, 1ULL << 63, UINT64_MAX};
 
@@ -422,6 +516,8 @@ static void try_far_streams(void)
         expect_left(loonstool_meter_metering(meter, stream, UINT64_MAX), LOONSTOOL_STREAM_ABOVE, "too much, a stream above 15", stream);
         expect_left(loonstool_meter_totals(meter, stream, totals), LOONSTOOL_STREAM_ABOVE, "totals, a stream above 15", stream);
         expect_no_means(stream, LOONSTOOL_STREAM_ABOVE, "a mean, a stream above 15");
+        expect_no_day(stream, BLOCKS, LOONSTOOL_STREAM_ABOVE, "a day file, a stream above 15");
+        expect_left(loonstool_meter_day(meter, stream, NULL, 0, NULL, 0, counts), LOONSTOOL_STREAM_ABOVE, "no file", stream);
     }
 }
 
@@ -432,6 +528,63 @@ static void try_far_volumes(void)
         for (size_t i = 0; i < FAR_VOLUMES; i++)
             expect_left(loonstool_meter_metering(meter, stream, far_volumes[i]), LOONSTOOL_VOLUME_ABOVE, "a volume too high", stream);
         expect_left(loonstool_meter_analysis(meter, stream, NULL, 0), LOONSTOOL_RECORD_SHORT, "an analysis of no bytes, at NULL", stream);
+    }
+}
+
+/* 21, 23 and 19 on each stream, and a day file of no blocks, which is accepted. */
+static void try_refused_days(void)
+{
+    for (size_t stream = 0; stream < LOONSTOOL_STREAMS; stream++) {
+        for (size_t length = 0; length < DAY_BYTES; length++) {
+            const uint8_t *file = memcpy(bytes_end - length, day, length);
+            const uint64_t *volumes = volumes_end - BLOCKS;
+            uint8_t number = length < 5 ? LOONSTOOL_NO_DAY_FILE : LOONSTOOL_BLOCK_CUT;
+            for (size_t i = 0; i < BLOCKS; i++)
+                if (length == block_at[i] - 2)
+                    number = LOONSTOOL_LISTS_DIFFER;
+            expect_left(loonstool_meter_day(meter, stream, file, length, volumes, BLOCKS, counts), number, "a day file cut off", length);
+        }
+        for (size_t count = 0; count <= BLOCKS + 1; count++)
+            if (count != BLOCKS)
+                expect_no_day(stream, count, LOONSTOOL_LISTS_DIFFER, "another number of volumes than blocks");
+        expect_left(loonstool_meter_day(meter, stream, NULL, 0, NULL, 0, counts), LOONSTOOL_NO_DAY_FILE, "no file, at NULL", stream);
+        const uint8_t *none = memcpy(bytes_end - LOONSTOOL_FIRST_BLOCK, day, LOONSTOOL_FIRST_BLOCK);
+        uint8_t number = loonstool_meter_day(meter, stream, none, LOONSTOOL_FIRST_BLOCK, NULL, 0, counts);
+        expect(number == LOONSTOOL_ACCEPTED && counts->analyses == 0 && counts->volumes == 0, "a day file of no blocks", stream);
+        memset(counts, 0xa5, sizeof *counts);
+        expect_left(number, LOONSTOOL_ACCEPTED, "a day file of no blocks", stream);
+    }
+}
+
+/* The day file with methane at a pair in its first block is metered as the single calls on a copy of the meter are made; the other two
+ * records are refused. */
+static void try_day(size_t stream, const uint8_t pair[2], uint64_t first, uint64_t second, uint64_t third)
+{
+    static struct loonstool_meter singly;
+    const uint64_t volumes[BLOCKS] = {first, second, third};
+    struct loonstool_counts right = {0, 0};
+    uint8_t *file = memcpy(bytes_end - DAY_BYTES, day, DAY_BYTES);
+    memcpy(file + K2_AT + 5, pair, 2);
+    memcpy(volumes_end - BLOCKS, volumes, sizeof volumes);
+    singly = *meter;
+    for (size_t i = 0; i < BLOCKS; i++) {
+        right.analyses += loonstool_meter_analysis(&singly, stream, file + block_at[i], block_length[i]) == LOONSTOOL_ACCEPTED;
+        right.volumes += loonstool_meter_metering(&singly, stream, volumes[i]) == LOONSTOOL_ACCEPTED;
+    }
+    expect_accepted(loonstool_meter_day(meter, stream, file, DAY_BYTES, volumes_end - BLOCKS, BLOCKS, counts), stream, "a day file");
+    expect(memcmp(counts, &right, sizeof right) == 0, "the counts of a day file", stream);
+    expect(memcmp(meter, &singly, sizeof singly) == 0, "a day file leaves what the single calls leave", stream);
+    mark_filled();
+}
+
+/* On a fresh meter, on one with analyses, and with a pair that is not the stream's; with volumes that are refused. */
+static void try_days(void)
+{
+    static const uint8_t not_permitted[2] = {25, 15};
+    for (size_t stream = 0; stream < LOONSTOOL_STREAMS; stream++) {
+        try_day(stream, not_permitted, 1, 10000001, 0);
+        try_day(stream, pairs[stream % 6], 10000001, 0, stream);
+        try_day(stream, pairs[(stream + 1) % 6], 1, UINT64_MAX, 10000000);
     }
 }
 
@@ -469,11 +622,13 @@ static void try_full_stream(void)
     while (left > 10000000 && loonstool_meter_metering(meter, 0, 10000000) == LOONSTOOL_ACCEPTED)
         left -= 10000000;
     saved = *meter;
-    expect(left < 10000000, "a stream that has less than 10,000,000 dm3 left", 0);
+    expect(left > 1 && left < 10000000, "a stream that has less than 10,000,000 dm3 left", 0);
     expect_left(loonstool_meter_metering(meter, 0, left + 1), LOONSTOOL_TOTAL_PASSES, "one past the last volume", 0);
     expect_left(loonstool_meter_metering(meter, 0, 10000000), LOONSTOOL_TOTAL_PASSES, "the most past the last volume", 0);
-    expect_accepted(loonstool_meter_metering(meter, 0, left), 0, "the last volume");
+    try_day(0, pairs[0], left - 1, 2, 0);
+    expect_accepted(loonstool_meter_metering(meter, 0, 1), 0, "the last volume");
     expect_left(loonstool_meter_metering(meter, 0, 1), LOONSTOOL_TOTAL_PASSES, "a full stream", 0);
+    try_day(0, pairs[0], 1, 0, 10000000);
     expect_left(loonstool_meter_metering(meter, 0, 10000001), LOONSTOOL_VOLUME_ABOVE, "15 before 17", 0);
     expect_accepted(loonstool_meter_metering(meter, 0, 0), 0, "nothing more on a full stream");
     expect_readings(0, highest[VOLUME]);
@@ -693,14 +848,19 @@ static void try_meter(void)
 {
     mark_filled();
     make_fresh();
+    try_days();
+    make_fresh();
     try_far_streams();
     try_far_volumes();
+    try_refused_days();
     try_damages();
     try_streams();
     try_far_streams();
     try_far_volumes();
     try_numbers();
+    try_refused_days();
     try_streams_again();
+    try_days();
     try_full_stream();
     try_damages();
     try_drawn_damages();
@@ -715,7 +875,8 @@ static void lend(void)
     const uint32_t k1_fractions[8] = {924700, 35000, 9800, 2200, 3400, 600, 17500, 6800};
     lines = memcpy(lent(sizeof k1_lines), k1_lines, sizeof k1_lines);
     fractions = memcpy(lent(sizeof k1_fractions), k1_fractions, sizeof k1_fractions);
-    bytes_end = page_end();
+    bytes_end = page_end(LOONSTOOL_FIRST_BLOCK + 2 + LONGEST);
+    volumes_end = (uint64_t *)(void *)page_end((BLOCKS + 1) * sizeof *volumes_end);
     filled[0] = at_page_end(sizeof *properties);
     filled[1] = at_page_end(sizeof *combustion);
     filled[2] = at_page_end(sizeof *metering);
@@ -725,6 +886,8 @@ static void lend(void)
     filled[6] = at_page_end(sizeof *totals);
     filled[7] = at_page_end(sizeof *mean);
     filled[8] = at_page_end(sizeof *per_kilogram);
+    filled[9] = at_page_end(sizeof *counts);
+    filled[10] = at_page_end(sizeof *next);
     properties = filled[0].at;
     combustion = filled[1].at;
     metering = filled[2].at;
@@ -734,6 +897,9 @@ static void lend(void)
     totals = filled[6].at;
     mean = filled[7].at;
     per_kilogram = filled[8].at;
+    counts = filled[9].at;
+    next = filled[10].at;
+    block = lent(sizeof *block);
     meter = lent(sizeof *meter);
     two_lines = lent(2 * sizeof *two_lines);
     two_fractions = lent(2 * sizeof *two_fractions);
@@ -753,6 +919,7 @@ int main(void)
     try_numbers();
     try_pair();
     try_per_kilogram();
+    try_walk();
     try_meter();
     printf("%u checks, %u failed\n", checks, failures);
     return failures != 0;

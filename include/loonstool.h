@@ -1,9 +1,11 @@
 /* Natural gas metering by ISO 6976:1995: the functions of target/staticlib/libloonstool.a, which `tools/build library` writes. They are
- * a meter of sixteen streams, the properties of an analysis record, its calorific values per kilogram, and records read and written.
+ * a meter of sixteen streams, the properties of an analysis record, its calorific values per kilogram, records read and written, and a
+ * day's analyses in one file: its blocks found, and the whole of it metered.
  *
  * Each function takes whatever numbers and bytes it is given, and gives LOONSTOOL_ACCEPTED or the number of its refusal; after a refusal
- * the caller's memory is as it was. Two refuse nothing: loonstool_meter_fresh, and loonstool_meter_check, which gives true or false. No
- * call looks at more than 283 bytes of a record, so its time is bounded.
+ * the caller's memory is as it was. Three refuse nothing: loonstool_meter_fresh, and loonstool_meter_check and loonstool_day_block, which
+ * give true or false. No call looks at more than 283 bytes of a record, so its time is bounded; that of loonstool_meter_day grows with the
+ * number of blocks, and with nothing else.
  *
  * A record, numbers least significant byte first: bytes 0 to 2 the mark "GCR", 3 and 4 the version, 1, 5 the combustion temperature and 6
  * the metering temperature in degrees Celsius, 7 the number of entries n, 1 to 55; then n entries of 5 bytes, the line number (1 byte) and
@@ -12,11 +14,14 @@
  * ethane and carbon dioxide 150,000 each, water 200, every other line but methane 50,000. The lines are those of table 1 of the standard
  * (1 methane, 2 ethane, 42 water, 52 nitrogen, 54 carbon dioxide; all are named in crates/components/specs/Table.antt).
  *
+ * A day file, numbers least significant byte first: bytes 0 to 2 the mark "GDF", 3 and 4 the version, 1; then blocks one after the other,
+ * each a length (2 bytes) and that many bytes, 0 to 65,535, which should be a record, and need not be one that is accepted.
+ *
  * What a caller has to see to, for every function:
  *   - a pointer to const points to as many elements as its length says, which nothing writes during the call. Where the length is 0,
  *     nothing is read, and the pointer may be NULL;
- *   - a pointer to what is filled points to memory that may be written, as much as the function says. It need not be initialised. It may
- *     be NULL only for a buffer of length 0;
+ *   - a pointer to what is filled points to memory that may be written, as much as the function says. It need not be initialised, but for
+ *     a struct loonstool_block. It may be NULL only for a buffer of length 0;
  *   - pointers are aligned as their type asks. Bytes have no alignment;
  *   - what is filled or changed overlaps nothing else that is lent to the same call.
  * The functions keep nothing between calls. They may run at once in several threads; what is only read, as a record, may be shared, what
@@ -24,9 +29,9 @@
  *
  * And for a meter, which is memory that the caller lends:
  *   - its words hold a meter: loonstool_meter_fresh made them and the other calls alone changed them, or loonstool_meter_check accepted
- *     them. On other words loonstool_meter_metering, loonstool_meter_mean and loonstool_meter_mean_inferior promise nothing and may trap;
- *     loonstool_meter_totals stays within the memory that is lent, and promises no more; loonstool_meter_analysis leaves every other
- *     stream, and on a refusal all;
+ *     them. On other words loonstool_meter_metering, loonstool_meter_day, loonstool_meter_mean and loonstool_meter_mean_inferior promise
+ *     nothing and may trap; loonstool_meter_totals stays within the memory that is lent, and promises no more; loonstool_meter_analysis
+ *     leaves every other stream, and on a refusal all;
  *   - one call at a time on a meter, but for those that only read it. Several meters may run at once.
  * From loonstool_meter_fresh on, what a stream answers and holds depends on the calls that named it, on what they asked and on their order,
  * and on no other call.
@@ -74,8 +79,9 @@
 extern "C" {
 #endif
 
-/* The numbers that come back: the first twelve for a record, 13 to 18 from the meter's calls alone, 19 and 20 from the writer alone. Where
- * several conditions hold, the number is that of the first in the call's order, in which 9 stands after 10, 11 and 12. */
+/* The numbers that come back: the first twelve for a record, 13 to 18 from the meter's calls alone, 19 from the writer and where a day
+ * file has not as many volumes as blocks, 20 from the writer alone, 21 to 23 for a day file. Where several conditions hold, the number is
+ * that of the first in the call's order, in which 9 stands after 10, 11 and 12, and 19 after 23. */
 enum loonstool_number {
     LOONSTOOL_ACCEPTED = 0,
     LOONSTOOL_RECORD_SHORT = 1,       /* record shorter than 8 bytes */
@@ -97,7 +103,10 @@ enum loonstool_number {
     LOONSTOOL_TOTAL_PASSES = 17,      /* volume total would pass 999,999,999,999 */
     LOONSTOOL_TOTAL_ZERO = 18,        /* mean wanted at volume total 0 */
     LOONSTOOL_LISTS_DIFFER = 19,      /* the two lists differ in length */
-    LOONSTOOL_BUFFER_SHORT = 20       /* buffer shorter than 8 + 5n */
+    LOONSTOOL_BUFFER_SHORT = 20,      /* buffer shorter than 8 + 5n */
+    LOONSTOOL_NO_DAY_FILE = 21,       /* file shorter than 5 bytes, or wrong mark or version */
+    LOONSTOOL_OFFSET_OUTSIDE = 22,    /* offset below 5 or past the end */
+    LOONSTOOL_BLOCK_CUT = 23          /* block cut short by the file's end */
 };
 
 /* The lines of the component table, the most entries that a record has, and the bytes of a record with n entries. */
@@ -112,10 +121,13 @@ enum loonstool_number {
 #define LOONSTOOL_STACK_METER_TOTALS 200
 #define LOONSTOOL_STACK_METER_MEAN 200
 #define LOONSTOOL_STACK_METER_MEAN_INFERIOR 200
+#define LOONSTOOL_STACK_METER_DAY 600
 #define LOONSTOOL_STACK_PROPERTIES_OF 400
 #define LOONSTOOL_STACK_PER_KILOGRAM 400
 #define LOONSTOOL_STACK_READ 1000
 #define LOONSTOOL_STACK_WRITE 400
+#define LOONSTOOL_STACK_DAY_NEXT 200
+#define LOONSTOOL_STACK_DAY_BLOCK 200
 
 /* The streams of a meter, 0 to 15, and the words that each has. */
 #define LOONSTOOL_STREAMS 16
@@ -168,6 +180,20 @@ uint8_t loonstool_meter_mean(const struct loonstool_meter *m, size_t stream, uin
 LOONSTOOL_MUST_USE
 uint8_t loonstool_meter_mean_inferior(const struct loonstool_meter *m, size_t stream, uint64_t *mean);
 
+/* How many of a day file's analyses and how many of its volumes were accepted. */
+struct loonstool_counts {
+    uint64_t analyses;
+    uint64_t volumes;
+};
+
+/* Meters a day file of `length` bytes on a stream, from `count` volumes in dm3, one for each block: block after block, first an analysis
+ * with the block's bytes as record, then a metering of the block's volume, as loonstool_meter_analysis and loonstool_meter_metering do. A
+ * record or a volume that these refuse changes nothing and stops nothing. Refused by 13, 21, 23 (some block of the file is cut short) and
+ * 19 (`count` is not the number of blocks), tried in that order, all before anything is booked. */
+LOONSTOOL_MUST_USE
+uint8_t loonstool_meter_day(struct loonstool_meter *m, size_t stream, const uint8_t *file, size_t length, const uint64_t *volumes,
+                            size_t count, struct loonstool_counts *counts);
+
 /* The six properties. None passes the ceiling beside it. */
 struct loonstool_properties {
     uint64_t z;   /* compression factor, unit 10^-9, at most 1,000,000,000 */
@@ -205,6 +231,27 @@ uint8_t loonstool_read(const uint8_t *bytes, size_t length, uint8_t *combustion,
 LOONSTOOL_MUST_USE
 uint8_t loonstool_write(uint8_t combustion, uint8_t metering, const uint8_t *lines, size_t line_count, const uint32_t *fractions,
                         size_t fraction_count, uint8_t *buffer, size_t buffer_length);
+
+/* The offset of a day file's first block, and what is answered in place of an offset at the file's end. */
+#define LOONSTOOL_FIRST_BLOCK 5
+#define LOONSTOOL_DAY_END 0
+
+/* The offset after the block at an offset of a day file of `length` bytes, whatever the block holds; or LOONSTOOL_DAY_END where the offset
+ * is `length`. Refused by 21, 22 and 23, tried in that order. */
+LOONSTOOL_MUST_USE
+uint8_t loonstool_day_next(const uint8_t *file, size_t length, size_t offset, size_t *next);
+
+/* A block's bytes without those of its length: a part of the caller's own file, and no copy. */
+struct loonstool_block {
+    const uint8_t *bytes;
+    size_t length;
+};
+
+/* The block at an offset of a day file of `length` bytes: true, and it is in *block, where loonstool_day_next gives the offset after it;
+ * else false, and *block stays. Before the call *block must already hold bytes that may be read, at a pointer other than NULL, and their
+ * number: those of the file, or of another block. */
+LOONSTOOL_MUST_USE
+bool loonstool_day_block(const uint8_t *file, size_t length, size_t offset, struct loonstool_block *block);
 
 #ifdef __cplusplus
 }

@@ -38,18 +38,47 @@
 //! # Ok::<(), loonstool::Refusal>(())
 //! ```
 //!
+//! A day's analyses come in one file: the mark `GDF`, the version, 1, in two bytes, and blocks, each a length in two bytes and that many
+//! bytes, least significant byte first. [`Meter::day`] meters it whole; [`next_offset`] and [`block_at`] walk over its blocks, whatever
+//! they hold:
+//!
+//! ```
+//! use loonstool::{block_at, next_offset, Counts, Meter, Next, Refusal, FIRST_BLOCK};
+//!
+//! // Methane alone, at 15/15.
+//! let record = [0x47, 0x43, 0x52, 1, 0, 15, 15, 1, 1, 0x40, 0x42, 0x0F, 0];
+//! let file = [&b"GDF\x01\x00"[..], &[13, 0], &record, &[2, 0], &[0x47, 0x43]].concat();
+//! let mut offset = FIRST_BLOCK;
+//! let mut blocks = Vec::new();
+//! while let Next::Offset(next) = next_offset(&file, offset)? {
+//!     blocks.extend(block_at(&file, offset));
+//!     offset = next;
+//! }
+//! assert_eq!(blocks, [&record[..], &[0x47, 0x43]]);
+//!
+//! let mut meter = Meter::new();
+//! let counts = meter.day(0, &file, &[600, 400])?;
+//! assert_eq!(counts, Counts { analyses: 1, volumes: 2 }); // the second record is refused, the first stays in force
+//! assert_eq!(meter.totals(0)?.volume, 1_000);
+//! assert_eq!(meter.day(0, &file, &[600]), Err(Refusal::LISTS_DIFFER));
+//! assert_eq!(next_offset(&file, 4), Err(Refusal::OFFSET_OUTSIDE));
+//! # Ok::<(), Refusal>(())
+//! ```
+//!
 //! The exported functions take whatever bytes and numbers they are given. What they require of a caller is that pointers are valid
-//! for their lengths, aligned, and that what is filled or changed overlaps nothing else. Rust's slices and `&mut` have all of that. Three
+//! for their lengths, aligned, and that what is filled or changed overlaps nothing else. Rust's slices and `&mut` have all of that. Four
 //! of them also require words that hold a meter; a [`Meter`] has no others. So there is nothing left to test.
 #![no_std]
 #![warn(missing_docs)]
 
+mod day_file;
 mod meter;
 mod refusal;
 
 use core::mem::{offset_of, size_of, MaybeUninit};
 
-pub use meter::{Meter, NotAMeter, Totals, Words, STREAMS, STREAM_WORDS};
+pub use day_file::{block_at, next_offset, Next, FIRST_BLOCK};
+pub use meter::{Counts, Meter, NotAMeter, Totals, Words, STREAMS, STREAM_WORDS};
 pub use refusal::Refusal;
 
 /// The lines of the component table, and the most entries that a record has.

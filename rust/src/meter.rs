@@ -32,13 +32,25 @@ pub struct Totals {
     pub mass_rest: u64,
 }
 
-// The library fills seven numbers of 64 bits, in the header's order.
+/// How many of a day file's analyses and how many of its volumes were accepted.
+#[derive(Debug, Clone, Copy, PartialEq, Eq)]
+#[repr(C)]
+pub struct Counts {
+    /// Accepted analyses.
+    pub analyses: u64,
+    /// Accepted volumes.
+    pub volumes: u64,
+}
+
+// The library fills seven numbers of 64 bits, and two, in the header's order.
 const _: () = {
     assert!(size_of::<Totals>() == 56);
     assert!(offset_of!(Totals, volume) == 0);
     assert!(offset_of!(Totals, superior_mj) == 8 && offset_of!(Totals, superior_rest) == 16);
     assert!(offset_of!(Totals, inferior_mj) == 24 && offset_of!(Totals, inferior_rest) == 32);
     assert!(offset_of!(Totals, mass_kg) == 40 && offset_of!(Totals, mass_rest) == 48);
+    assert!(size_of::<Counts>() == 16);
+    assert!(offset_of!(Counts, analyses) == 0 && offset_of!(Counts, volumes) == 8);
 };
 
 /// Words that hold no meter.
@@ -72,13 +84,24 @@ extern "sysv64" {
     fn loonstool_meter_mean(m: *const Words, stream: usize, mean: *mut u64) -> u8;
 
     fn loonstool_meter_mean_inferior(m: *const Words, stream: usize, mean: *mut u64) -> u8;
+
+    fn loonstool_meter_day(
+        m: *mut Words,
+        stream: usize,
+        file: *const u8,
+        length: usize,
+        volumes: *const u64,
+        count: usize,
+        counts: *mut Counts,
+    ) -> u8;
 }
 
 /// A function of the library that answers a mean of a stream.
 type Mean = unsafe extern "sysv64" fn(*const Words, usize, *mut u64) -> u8;
 
-/// A meter of sixteen streams, 0 to 15, which its calls change in place. A stream takes an analysis, meters volumes, and answers its
-/// totals and its mean calorific values. A refused call leaves all of the meter as it was, an accepted one every other stream.
+/// A meter of sixteen streams, 0 to 15, which its calls change in place. A stream takes an analysis, meters volumes, takes a day file of
+/// analyses with a volume for each, and answers its totals and its mean calorific values. A refused call leaves all of the meter as it
+/// was, an accepted one every other stream.
 /// From [`new`](Self::new) on, what a stream answers and holds depends on the calls that named it, on what they asked and on their order,
 /// and on no other call.
 ///
@@ -111,8 +134,8 @@ type Mean = unsafe extern "sysv64" fn(*const Words, usize, *mut u64) -> u8;
 /// ```
 #[derive(Debug, Clone, PartialEq, Eq)]
 pub struct Meter {
-    // They hold a meter, which `metering` and both means of the library require: they were filled by `fresh` or accepted by `check`, and
-    // changed by `analysis` and `metering` alone. No function lends them to be changed.
+    // They hold a meter, which `metering`, `day` and both means of the library require: they were filled by `fresh` or accepted by `check`,
+    // and changed by `analysis`, `metering` and `day` alone. No function lends them to be changed.
     words: Words,
 }
 
@@ -170,6 +193,32 @@ impl Meter {
         // SAFETY: the words are borrowed mutably, and hold a meter, as the field says.
         let number = unsafe { loonstool_meter_metering(&mut self.words, stream, volume) };
         Refusal::unless_accepted(number)
+    }
+
+    /// Meters a day file on a stream, from a list of volumes in dm³, one for each block: block after block, first an
+    /// [`analysis`](Self::analysis) with the block's bytes as record, then a [`metering`](Self::metering) of the block's volume. A record
+    /// or a volume that these refuse changes nothing and stops nothing; the answer is how many of each were accepted. Refused by 13, 21, 23
+    /// (some block of the file is cut short) and 19 (there are not as many volumes as blocks), tried in that order, all before anything is
+    /// booked.
+    #[inline]
+    pub fn day(&mut self, stream: usize, file: &[u8], volumes: &[u64]) -> Result<Counts, Refusal> {
+        let mut counts = MaybeUninit::uninit();
+        // SAFETY: the words are borrowed mutably, and hold a meter, as the field says; the slices are valid for their lengths, `counts` is
+        // ours, and what is filled or changed overlaps nothing else.
+        let number = unsafe {
+            loonstool_meter_day(
+                &mut self.words,
+                stream,
+                file.as_ptr(),
+                file.len(),
+                volumes.as_ptr(),
+                volumes.len(),
+                counts.as_mut_ptr(),
+            )
+        };
+        Refusal::unless_accepted(number)?;
+        // SAFETY: an accepted call fills both.
+        Ok(unsafe { counts.assume_init() })
     }
 
     /// The volume, both energies and the mass of a stream. Refused by 13.

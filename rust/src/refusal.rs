@@ -16,7 +16,8 @@ macro_rules! refusals {
                 pub const $name: Refusal = Refusal { number: $number };
             )*
 
-            /// Every refusal with its name, in the order of the numbers. The calls of a [`Meter`](crate::Meter) alone give 13 to 18.
+            /// Every refusal with its name, in the order of the numbers. The calls of a [`Meter`](crate::Meter) alone give 13 to 18, those
+            /// on a day file alone 21 to 23.
             pub const ALL: &'static [(&'static str, Refusal)] = &[$((stringify!($name), Refusal::$name)),*];
 
             /// The name of its constant.
@@ -61,6 +62,9 @@ refusals! {
     18 TOTAL_ZERO "mean wanted at volume total 0";
     19 LISTS_DIFFER "the two lists differ in length";
     20 BUFFER_SHORT "buffer shorter than 8 + 5n";
+    21 NO_DAY_FILE "file shorter than 5 bytes, or wrong mark or version";
+    22 OFFSET_OUTSIDE "offset below 5 or past the end";
+    23 BLOCK_CUT "block cut short by the file's end";
 }
 
 impl Refusal {

@@ -1,14 +1,21 @@
 //! include/loonstool.h has the names, numbers, conditions, parameters and ceilings of this crate; the conditions, units and ceilings are
 //! those of the definitions in specs/.
-use loonstool::{PerKilogram, Properties, Refusal, LINES, STREAMS, STREAM_WORDS};
+use loonstool::{PerKilogram, Properties, Refusal, FIRST_BLOCK, LINES, STREAMS, STREAM_WORDS};
 
 const HEADER: &str = include_str!("../../include/loonstool.h");
-const WRAPPERS: [&str; 2] = [
+const WRAPPERS: [&str; 3] = [
     include_str!("../src/lib.rs"),
-    include_str!("../src/meter.rs"),
+    METER_WRAPPER,
+    DAY_FILE_WRAPPER,
 ];
+const METER_WRAPPER: &str = include_str!("../src/meter.rs");
+const DAY_FILE_WRAPPER: &str = include_str!("../src/day_file.rs");
 const RECORDS: &str = include_str!("../../crates/records/specs/Conditions.antt");
 const METER: &str = include_str!("../../crates/meter/specs/Conditions.antt");
+const DAY_FILE: [&str; 2] = [
+    include_str!("../../crates/day_file/specs/Format.antt"),
+    include_str!("../../crates/day_file/specs/Walk.antt"),
+];
 const QUANTITIES: &str = include_str!("../../crates/properties/specs/Quantities.antt");
 const BOUNDS: &str = include_str!("../../crates/properties/specs/Bounds.antt");
 
@@ -28,7 +35,7 @@ fn refusals() {
         .map(|(name, refusal)| (*name, refusal.number(), refusal.condition()))
         .collect();
     assert_eq!(in_header, here);
-    assert_eq!(here.len(), 20);
+    assert_eq!(here.len(), 23);
     assert!(HEADER.contains("LOONSTOOL_ACCEPTED = 0,"));
     let says = Refusal::SUM_OUTSIDE.to_string();
     assert_eq!(says, "refused 9: sum outside its range");
@@ -42,11 +49,8 @@ fn condition(line: &str) -> Option<(u8, &str)> {
 
 #[test]
 fn conditions() {
-    let mut defined: Vec<_> = RECORDS
-        .lines()
-        .chain(METER.lines())
-        .filter_map(condition)
-        .collect();
+    let files = [RECORDS, METER].into_iter().chain(DAY_FILE);
+    let mut defined: Vec<_> = files.flat_map(str::lines).filter_map(condition).collect();
     defined.sort_unstable();
     assert_eq!(defined.len(), Refusal::ALL.len());
     for ((number, text), (_, refusal)) in defined.into_iter().zip(Refusal::ALL) {
@@ -191,9 +195,12 @@ fn sizes() {
         ("LINES", LINES),
         ("STREAMS", STREAMS),
         ("STREAM_WORDS", STREAM_WORDS),
+        ("FIRST_BLOCK", FIRST_BLOCK),
+        ("DAY_END", 0),
     ] {
         assert!(HEADER.contains(&format!("\n#define LOONSTOOL_{name} {size}\n")));
     }
+    assert!(DAY_FILE_WRAPPER.contains("\nconst DAY_END: usize = 0;\n"));
 }
 
 /// The names of the fields of a struct, whose text begins as given and ends with a brace at the start of a line.
@@ -209,11 +216,16 @@ fn fields(text: &'static str, start: &str, keyword: &str) -> Vec<&'static str> {
 }
 
 #[test]
-fn totals() {
-    let in_c = fields(HEADER, "struct loonstool_totals {", "uint64_t ");
-    let here = fields(WRAPPERS[1], "pub struct Totals {", "pub ");
-    assert_eq!(in_c, here);
-    assert_eq!(here.len(), 7);
+fn totals_and_counts() {
+    for (in_c, here, number) in [
+        ("struct loonstool_totals {", "pub struct Totals {", 7),
+        ("struct loonstool_counts {", "pub struct Counts {", 2),
+    ] {
+        let in_c = fields(HEADER, in_c, "uint64_t ");
+        let here = fields(METER_WRAPPER, here, "pub ");
+        assert_eq!(in_c, here);
+        assert_eq!(here.len(), number);
+    }
 }
 
 #[test]

@@ -100,7 +100,7 @@ fn random_streams(random: &mut Random) -> [usize; 9] {
 
 /// How often what occurred.
 struct Counts {
-    answers: Answers<5>,
+    answers: Answers<6>,
     lists: u64,
     /// Lists that began with a stream that calls filled.
     filled: u64,
@@ -115,7 +115,7 @@ struct Counts {
     met: u64,
     /// Metering calls that would have brought it one above.
     passed: u64,
-    /// Metering calls that carried from the rest to the whole, of each register.
+    /// Calls that carried from the rest to the whole, of each register.
     carries: [u64; 3],
 }
 
@@ -155,7 +155,7 @@ impl Counts {
 
     fn print(&self) {
         self.answers.print();
-        println!("(a reading is a call of totals and one of each mean; calls that fill a stream are among those of metering)");
+        println!("(a reading is a call of totals and one of each mean; calls that fill a stream are among those of metering, those of a day file are not)");
         println!(
             "{} random calls in {} lists; words restored {} times",
             self.calls, self.lists, self.restored
@@ -249,7 +249,7 @@ impl Meters {
         counts.book(call, room, &answer);
         counts.book_carries(rests, self.rests(call.stream));
         let mut words = before;
-        if answer == Answer::Changed(Ok(())) {
+        if answer.accepts() {
             words[call.stream] = row_of(&self.plain.streams[call.stream]);
         }
         let what = || format!("{}\nwords before: {before:?}", shown(call));

@@ -204,6 +204,7 @@ impl List {
 fn refused_by_13(call: &Call) -> Answer {
     match call.kind {
         b'a' | b'm' => Answer::Changed(Err(13)),
+        b'd' => Answer::Metered(Err(13)),
         _ => Answer::Read(Reading {
             totals: Err(13),
             mean: Err(13),
@@ -216,7 +217,7 @@ fn refused_by_13(call: &Call) -> Answer {
 struct Counts {
     pairs: u64,
     /// What the calls on the stream gave.
-    answers: Answers<5>,
+    answers: Answers<6>,
     /// Pairs that left different meters.
     apart: u64,
     /// Calls among those on the stream that changed another stream.

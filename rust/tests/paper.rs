@@ -1,15 +1,17 @@
 //! Document 01's cases K1 to K9, further gases, the inferior energy and the mass
-//! of K9, values per kilogram, and each refusal number of a record and the
-//! writer, on the library and the plain version; K10 on the plain version.
+//! of K9, K9 in a day file, values per kilogram, and each refusal number of a
+//! record, the writer and a day file, on the library and the plain version; K10 on
+//! the plain version.
 
 mod calls;
 mod cases;
 mod plain;
 
-use calls::{analysis, call, Answer, Call, Reading, TakesCalls};
+use calls::{analysis, call, day, Answer, Call, Reading, TakesCalls};
 use cases::{methane_and, record, HALF_GAS, K1, K1_PROPERTIES, K2};
-use loonstool::{Analysis, PerKilogram, Properties, Refusal};
+use loonstool::{Analysis, Counts, Next, PerKilogram, Properties, Refusal};
 use plain::conditions::Conditions;
+use plain::day_file;
 use plain::table::{MASS, TABLE};
 use std::collections::HashMap;
 use std::fmt::Debug;
@@ -178,7 +180,11 @@ fn k9_among(others: &[Call], mut meter: Box<dyn TakesCalls>) -> Reading {
     for accepted in [analysis(0, "", &K2), metering] {
         assert_eq!(answer(&accepted), Answer::Changed(Ok(())));
     }
-    match answer(&call(b'r', 0, 0)) {
+    reading_in(answer(&call(b'r', 0, 0)))
+}
+
+fn reading_in(answer: Answer) -> Reading {
+    match answer {
         Answer::Read(reading) => reading,
         other => panic!("a reading answers {other:?}"),
     }
@@ -214,6 +220,77 @@ fn k9_mass() {
     for reading in k9() {
         let totals = reading.totals.unwrap();
         assert_eq!((totals.mass_kg, totals.mass_rest), (0, 1_000 * rho));
+    }
+}
+
+/// K2 between records that are refused, an empty one and K1 at 0/0; a volume before
+/// the first analysis, and at the end one that is too great, refused too. What is
+/// accepted makes K9.
+#[test]
+fn k9_in_a_day_file() {
+    let file = day_file::file_of(&[&[][..], &K2, &record(0, 0, &K1), &[]]);
+    let metering = day(0, file, vec![1_000, 400, 600, 10_000_001]);
+    let accepted = Counts {
+        analyses: 1,
+        volumes: 2,
+    };
+    for (mut meter, k9) in fresh_meters().into_iter().zip(k9()) {
+        assert_eq!(meter.answer(&metering), Answer::Metered(Ok(accepted)));
+        assert_eq!(reading_in(meter.answer(&call(b'r', 0, 0))), k9);
+    }
+}
+
+/// Each number of a day file's metering, where the next ones hold too; the meter
+/// stays as it was.
+#[test]
+fn day_file_refused() {
+    let cut = |mark: &str| [mark.as_bytes(), &[1, 0, 13, 0], &K2[..12]].concat();
+    let refused = [
+        (13, 16, cut("GCR")),
+        (21, 15, cut("GCR")),
+        (21, 15, b"GDF\x01".to_vec()),
+        (21, 15, b"GDF\x01\x01".to_vec()),
+        (23, 15, cut("GDF")),
+        (23, 15, b"GDF\x01\x00\x00".to_vec()),
+        (19, 15, day_file::file_of(&[K2])),
+        (19, 15, day_file::file_of(&[K2; 3])),
+        (19, 15, b"GDF\x01\x00".to_vec()),
+    ];
+    for mut meter in fresh_meters() {
+        for (number, stream, file) in &refused {
+            let metering = day(*stream, file.clone(), vec![1, 1]);
+            assert_eq!(meter.answer(&metering), Answer::Metered(Err(*number)));
+            let without_analysis = meter.answer(&call(b'm', 15, 0));
+            assert_eq!(without_analysis, Answer::Changed(Err(16)));
+        }
+    }
+}
+
+/// An empty block and K2, walked over, with the offsets before the first block and
+/// past the end, and with the last byte missing.
+#[test]
+fn day_file_walk() {
+    let file = [b"GDF\x01\x00\x00\x00\x0D\x00", &K2[..]].concat();
+    let next = |file: &[u8], offset| {
+        both(
+            day_file::next_offset(file, offset),
+            loonstool::next_offset(file, offset),
+        )
+    };
+    assert_eq!(next(&file, 5), Ok(Next::Offset(7)));
+    assert_eq!(next(&file, 7), Ok(Next::Offset(22)));
+    assert_eq!(next(&file, 22), Ok(Next::End));
+    for offset in [0, 4, 23, usize::MAX] {
+        assert_eq!(next(&file, offset), Err(22));
+    }
+    assert_eq!(next(&file[..21], 7), Err(23));
+    assert_eq!(next(&file[..8], 7), Err(23));
+    assert_eq!(next(&file[..4], 5), Err(21));
+    for block_at in [loonstool::block_at, day_file::block_at] {
+        assert_eq!(block_at(&file, 5), Some(&[][..]));
+        assert_eq!(block_at(&file, 7), Some(&K2[..]));
+        assert_eq!(block_at(&file, 22), None);
+        assert_eq!(block_at(&file[..21], 7), None);
     }
 }
 

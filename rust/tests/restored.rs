@@ -8,10 +8,11 @@ mod cases;
 mod plain;
 mod records;
 
-use calls::{analysis, call, Answer, Call, TakesCalls};
+use calls::{analysis, call, day, Answer, Call, TakesCalls};
 use cases::{every_line, record, K1, K2};
 use loonstool::{Meter, NotAMeter, Properties, Words, STREAMS, STREAM_WORDS};
 use plain::conditions::Conditions;
+use plain::day_file::file_of;
 use plain::meter::{
     Energy, InForce, Register, GREATEST_TOTAL, GREATEST_VOLUME, KILOGRAM, MEGAJOULE,
 };
@@ -106,8 +107,11 @@ fn compare_calls(mut meter: Meter, stream: usize) {
     let words = *meter.words();
     let mut plain = meter_of(&words);
     let volumes = [0, 1, GREATEST_VOLUME].map(|volume| call(b'm', stream, volume));
-    let analyses = [&K2[..], &record(0, 0, &K1)].map(|record| analysis(stream, "", record));
-    for call in volumes.iter().chain(&analyses).chain(&volumes) {
+    let records = [K2.to_vec(), record(0, 0, &K1)];
+    let day = day(stream, file_of(&records), vec![1, GREATEST_VOLUME]);
+    let analyses = records.map(|record| analysis(stream, "", &record));
+    let calls = volumes.iter().chain(&analyses).chain(&volumes);
+    for call in calls.chain([&day]) {
         for call in [call, &self::call(b'r', stream, 0)] {
             assert_eq!(meter.answer(call), plain.answer(call), "{words:?}");
         }
@@ -394,17 +398,20 @@ fn bad_arguments() {
         u64::MAX,
     ];
     let bytes = [&[][..], &[0], &K2[..7], &K2[..12], &[255; 8], &[0; 1_000]];
-    let (mut numbers, mut refused) = ([false; 21], 0);
+    let file = file_of(&[K2, K2]);
+    let files = [&[][..], &file[..4], &file[..file.len() - 1], &file];
+    let (mut numbers, mut refused) = ([false; 24], 0);
     for mut meter in meters() {
         let words = *meter.words();
         let mut plain = meter_of(&words);
         for stream in (0..STREAMS).chain(streams) {
             let metering = volumes.map(|volume| call(b'm', stream, volume));
             let analyses = bytes.map(|bytes| analysis(stream, "", bytes));
-            for call in metering.iter().chain(&analyses) {
+            let days = files.map(|file| day(stream, file.to_vec(), vec![1]));
+            for call in metering.iter().chain(&analyses).chain(&days) {
                 let answer = meter.answer(call);
                 assert_eq!(answer, plain.answer(call));
-                let Answer::Changed(Err(number)) = answer else {
+                let Some(number) = answer.refusal() else {
                     panic!("{call:?} is accepted");
                 };
                 assert_eq!(meter.words(), &words);
@@ -416,5 +423,6 @@ fn bad_arguments() {
         }
     }
     println!("bad arguments: {refused} calls refused");
-    assert!([1, 2, 6, 13, 15].iter().all(|number| numbers[*number]));
+    let each = [1, 2, 6, 13, 15, 19, 21, 23];
+    assert!(each.iter().all(|number| numbers[*number]));
 }

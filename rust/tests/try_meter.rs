@@ -8,7 +8,7 @@ mod random_calls;
 mod records;
 
 use calls::{analysis, call, Call};
-use random_calls::random_call;
+use random_calls::random_single_call;
 use records::Random;
 use std::io::Write;
 use std::path::Path;
@@ -68,7 +68,7 @@ fn random_list(random: &mut Random) -> Vec<Call> {
         list.extend([analysis(0, "", &cases::K2), call(b'f', 0, 0)]);
     }
     loop {
-        list.push(random_call(random, &STREAMS));
+        list.push(random_single_call(random, &STREAMS));
         if calls::input(&list).len() + calls::input(&readings()).len() > INPUT {
             list.pop();
             list.extend(readings());

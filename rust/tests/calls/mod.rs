@@ -5,9 +5,10 @@
 
 use crate::cases::{methane_and, record, K2};
 use crate::plain::{Meter, Tally};
-use loonstool::{Refusal, Totals};
+use loonstool::{Counts, Refusal, Totals};
 
-/// A call in the words of crates/try_meter/src/main.rt: `a` is an analysis, `m` a metering call, `f` fills a stream, and `r` reads one.
+/// A call in the words of crates/try_meter/src/main.rt: `a` is an analysis, `m` a metering call, `f` fills a stream, and `r` reads one;
+/// and `d`, which that program does not have, meters a day file.
 #[derive(Debug, Clone)]
 pub struct Call {
     pub kind: u8,
@@ -16,6 +17,9 @@ pub struct Call {
     pub volume: u64,
     pub title: &'static str,
     pub record: Vec<u8>,
+    pub file: Vec<u8>,
+    /// dm³, one for each block of the file.
+    pub volumes: Vec<u64>,
 }
 
 pub fn call(kind: u8, stream: usize, volume: u64) -> Call {
@@ -25,6 +29,8 @@ pub fn call(kind: u8, stream: usize, volume: u64) -> Call {
         volume,
         title: "",
         record: Vec::new(),
+        file: Vec::new(),
+        volumes: Vec::new(),
     }
 }
 
@@ -36,12 +42,38 @@ pub fn analysis(stream: usize, title: &'static str, record: &[u8]) -> Call {
     }
 }
 
+pub fn day(stream: usize, file: Vec<u8>, volumes: Vec<u64>) -> Call {
+    Call {
+        file,
+        volumes,
+        ..call(b'd', stream, 0)
+    }
+}
+
 /// What a meter answers to a call.
 #[derive(Debug, Clone, Copy, PartialEq)]
 pub enum Answer {
     /// To an analysis or a metering call.
     Changed(Result<(), u8>),
+    /// To a day file.
+    Metered(Result<Counts, u8>),
     Read(Reading),
+}
+
+impl Answer {
+    /// Whether it accepts a call that changes the meter.
+    pub fn accepts(&self) -> bool {
+        matches!(self, Self::Changed(Ok(())) | Self::Metered(Ok(_)))
+    }
+
+    /// The number by which it refuses a call that changes the meter.
+    pub fn refusal(&self) -> Option<u8> {
+        match self {
+            Self::Changed(answer) => answer.err(),
+            Self::Metered(answer) => answer.err(),
+            Self::Read(_) => None,
+        }
+    }
 }
 
 /// The three answers to a reading.
@@ -52,7 +84,7 @@ pub struct Reading {
     pub mean_inferior: Result<u64, u8>,
 }
 
-/// What takes the calls `a`, `m` and `r`.
+/// What takes the calls `a`, `m`, `d` and `r`.
 pub trait TakesCalls {
     fn answer(&mut self, call: &Call) -> Answer;
 }
@@ -65,6 +97,7 @@ macro_rules! takes_calls {
                 match call.kind {
                     b'a' => Answer::Changed(self.analysis(k, &call.record)),
                     b'm' => Answer::Changed(self.metering(k, call.volume)),
+                    b'd' => Answer::Metered(self.day(k, &call.file, &call.volumes)),
                     _ => Answer::Read(Reading {
                         totals: self.totals(k),
                         mean: self.mean(k),
@@ -84,6 +117,10 @@ impl TakesCalls for loonstool::Meter {
         match call.kind {
             b'a' => Answer::Changed(self.analysis(k, &call.record).map_err(Refusal::number)),
             b'm' => Answer::Changed(self.metering(k, call.volume).map_err(Refusal::number)),
+            b'd' => {
+                let answer = self.day(k, &call.file, &call.volumes);
+                Answer::Metered(answer.map_err(Refusal::number))
+            }
             _ => Answer::Read(Reading {
                 totals: self.totals(k).map_err(Refusal::number),
                 mean: self.mean(k).map_err(Refusal::number),
@@ -154,6 +191,7 @@ pub fn printed(list: &[Call]) -> String {
                 format!("metering {k} {volume}: {}\n", verdict(given))
             }
             Answer::Changed(given) => format!("analysis {k}{title}: {}\n", verdict(given)),
+            Answer::Metered(_) => panic!("the program takes no day file"),
         };
     }
     text

@@ -15,7 +15,7 @@ const DEFAULT_SEED: u64 = 6976;
 const DUE: u64 = 1_000;
 
 /// How many numbers a call may give; 0 says that it is accepted.
-const NUMBERS: usize = 21;
+const NUMBERS: usize = 24;
 
 /// A comparison: the test's name, what it counts, and how many it makes where
 /// no argument says so.

@@ -1,7 +1,8 @@
 //! The meter of sixteen streams.
 
+use super::day_file;
 use super::properties::{properties_of, six};
-use loonstool::Totals;
+use loonstool::{Counts, Totals};
 
 const STREAMS: usize = 16;
 pub const GREATEST_VOLUME: u64 = 10_000_000;
@@ -125,6 +126,13 @@ impl Meter {
     #[inline(never)]
     pub fn metering_by_call(&mut self, stream: usize, volume: u64) -> Result<(), u8> {
         self.metering(stream, volume)
+    }
+
+    /// Meters a day file, from a list of volumes in dm³, one for each block.
+    pub fn day(&mut self, stream: usize, file: &[u8], volumes: &[u64]) -> Result<Counts, u8> {
+        day_file::metered(stream, file, volumes, |block, volume| {
+            [self.analysis(stream, block), self.metering(stream, volume)]
+        })
     }
 
     /// Volume in dm³, both energies in whole MJ and their rests in mJ, mass in

@@ -1,8 +1,9 @@
 //! The tally: what the calls of a list add up to, booked and exact.
 
+use super::day_file;
 use super::fraction::Fraction;
 use super::properties::{properties_of, unrounded_hs_hi_and_rho};
-use loonstool::Totals;
+use loonstool::{Counts, Totals};
 
 /// A calorific value in J/m³ or a density in 10^-8 kg/m³, rounded and unrounded.
 #[derive(Clone)]
@@ -146,6 +147,13 @@ impl Tally {
         stream.inferior.add(volume, &gas.hi);
         stream.mass.add(volume, &gas.rho);
         Ok(())
+    }
+
+    /// A day file counts as its single calls, or as none where it is itself refused.
+    pub fn day(&mut self, stream: usize, file: &[u8], volumes: &[u64]) -> Result<Counts, u8> {
+        day_file::metered(stream, file, volumes, |block, volume| {
+            [self.analysis(stream, block), self.metering(stream, volume)]
+        })
     }
 
     /// V, each E as whole MJ and rest in mJ, and the mass as whole kg and rest in 10^-11 kg.

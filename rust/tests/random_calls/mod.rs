@@ -3,14 +3,25 @@
 // Each program that includes this module uses a part of it.
 #![allow(dead_code)]
 
+pub mod day;
+
 use crate::calls::{analysis, call, Call};
 use crate::plain;
 use crate::plain::meter::{GREATEST_TOTAL, GREATEST_VOLUME};
 use crate::records::{self, hex, Random};
+use day::random_day;
 use loonstool::Totals;
 
-/// A reading, an analysis or, most often, a metering call on one of the given streams.
+/// A call on one of the given streams; one of eight meters a day file.
 pub fn random_call(random: &mut Random, streams: &[usize]) -> Call {
+    match random.below(8) {
+        0 => random_day(random, streams),
+        _ => random_single_call(random, streams),
+    }
+}
+
+/// A reading, an analysis or, most often, a metering call on one of the given streams.
+pub fn random_single_call(random: &mut Random, streams: &[usize]) -> Call {
     let stream = *random.one_of(streams);
     match random.below(5) {
         0 => call(b'r', stream, 0),
@@ -61,7 +72,11 @@ pub fn room<E>(totals: Result<Totals, E>) -> Option<u64> {
 pub fn aim(random: &mut Random, call: &mut Call, room: Option<u64>) {
     if let Some(room) = room.filter(|room| *room <= GREATEST_VOLUME) {
         if random.below(4) == 0 {
-            call.volume = room + random.below(2);
+            let place = match call.volumes.len() {
+                0 => &mut call.volume,
+                length => &mut call.volumes[random.index(length)],
+            };
+            *place = room + random.below(2);
         }
     }
 }
@@ -72,6 +87,7 @@ pub fn shown(call: &Call) -> String {
     match call.kind {
         b'a' => format!("analysis {k}\nrecord: {}", hex(&call.record)),
         b'm' => format!("metering {k} {volume}"),
+        b'd' => format!("day file {k} {:?}\nfile: {}", call.volumes, hex(&call.file)),
         _ => format!("reading {k}"),
     }
 }
