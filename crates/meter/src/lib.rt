@@ -3,7 +3,7 @@
 // that is refused leaves the meter as it was.
 #![tactic(auto)]
 
-ghost use Rattle.std.specs.Prelude.{◌≡◌, ◌+◌, ◌*◌, ◌^◌, ◌≤◌, ◌<◌, IfOk};
+ghost use Rattle.std.specs.Prelude.{◌≡◌, [], ◌∷◌, ◌+◌, ◌*◌, ◌^◌, ◌≤◌, ◌<◌, IfOk};
 ghost use Rattle.records.specs.Order.{first_of};
 ghost use Rattle.records.specs.Refusals.{number_in};
 ghost use Rattle.records.specs.Answers.{Gives};
@@ -225,7 +225,17 @@ impl Stream {
         Ok(())
     }
 
-    // The blocks of a day file, each with its volume: first the record comes into force, then the volume is taken. A refusal stops nothing.
+    // A block of a day file with its volume: first its record comes into force, then the volume is taken. A refusal stops nothing.
+    fn block(&mut self, block: &[u8], volume: u64) -> Counts
+        ensures { record { counts = result; left = self.new } ≡ stream_day self.old (block.now ∷ []) (volume ∷ []) }
+    {
+        Counts {
+            analyses: usize::from(self.analysis(block).is_ok()),
+            volumes: usize::from(self.metering(volume).is_ok()),
+        }
+    }
+
+    // The blocks of a day file, each with its volume.
     pub fn day(&mut self, day: &DayFile, volumes: &[u64]) -> Counts
         ensures { record { counts = result; left = self.new } ≡ stream_day self.old (blocks_of day.now.file.now) volumes.now }
     {
@@ -235,10 +245,9 @@ impl Stream {
             let Some(block) = blocks.next() else {
                 break;
             };
-            let analysed = self.analysis(block).is_ok();
-            let metered = self.metering(*volume).is_ok();
-            counts.analyses += usize::from(analysed);
-            counts.volumes += usize::from(metered);
+            let taken = self.block(block, *volume);
+            counts.analyses += taken.analyses;
+            counts.volumes += taken.volumes;
         }
         counts
     }
