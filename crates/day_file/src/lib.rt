@@ -2,10 +2,7 @@
 // answer or the one reason of its refusal.
 #![tactic(auto)]
 
-ghost use Rattle.std.specs.Prelude.{◌≡◌, IfOk, length};
-ghost use Rattle.records.specs.Order.{first_of};
-ghost use Rattle.records.specs.Refusals.{number_in};
-ghost use Rattle.day_file.specs.Format.{no_day_file, blocks_of, file_order};
+ghost use Rattle.std.specs.Prelude.{◌≡◌};
 ghost use Rattle.day_file.specs.Walk.{place_of, next_of, block_of};
 ghost use Rattle.day_file.specs.Answers.{place_meaning, next_meaning, block_meaning};
 

@@ -1,7 +1,8 @@
 // The meter of document 01 in words that the caller lends and a call changes in place, so that firmware in C or Rust can call it and keep
 // it. A row of words holds a stream. Each call on a stream tests 13 and works on the stream's row alone; a refusal leaves all that was
 // lent as it was.
-// The calls of crates/meter change a `Meter`; here words are lent, of which an analysis changes nine, and a metering call seven.
+// The calls of crates/meter change a `Meter`; here words are lent, of which an analysis changes nine, a metering call seven, and a day file
+// all of a row.
 #![tactic(auto)]
 
 mod held;
@@ -9,15 +10,15 @@ mod words;
 
 ghost use Rattle.std.specs.Prelude.{◌≡◌};
 ghost use Rattle.records.specs.Refusals.{number_in};
+ghost use Rattle.day_file.specs.Format.{blocks_of};
 ghost use Rattle.meter.specs.declared.Meter.{Meter};
 ghost use Rattle.meter.specs.declared.Stream.{Stream};
 ghost use Rattle.meter.specs.State.{fresh_meter};
 ghost use Rattle.meter.specs.Calls.{stream_analysis, stream_metering, analysis_of, metering_of, totals_of, mean_for};
+ghost use Rattle.meter.specs.Days.{stream_day, day_of};
 ghost use Rattle.meter.specs.Answers.{totals_meaning, mean_meaning};
 ghost use Rattle.lent_meter.specs.Words.{packed, packed_totals, packed_counts};
 ghost use Rattle.lent_meter.specs.Lent.{Lent, LentRow, OnWords, Leaves, OnMeter, OnRow, LeavesRow, DayOnWords, DayOnRow};
-ghost use Rattle.day_file.specs.Format.{blocks_of};
-ghost use Rattle.meter.specs.Days.{stream_day, day_of};
 ghost use Rattle.lent_meter.specs.Check.{Tells};
 
 use day_file::DayFile;

@@ -1,7 +1,8 @@
 // What firmware in C and Rust calls: the meter in words that the caller lends, the properties of a record, its calorific values per
-// kilogram, and records read and written. crates/loonstool_c exports each of these functions; include/loonstool.h declares the exports for
-// C, rust/ wraps them for Rust. Each call that may be refused gives 0, or document 01's number, by which alone C knows a refusal; a
-// refusal leaves what the caller lent as it was. C passes plain numbers and lists, and has no enum with a value.
+// kilogram, records read and written, and the blocks of a day file. crates/loonstool_c exports each of these functions;
+// include/loonstool.h declares the exports for C, rust/ wraps them for Rust. Each call that may be refused gives 0, or the number of the
+// refusal, by which alone C knows it; a refusal leaves what the caller lent as it was. C passes plain numbers and lists, and has no enum
+// with a value.
 #![tactic(auto)]
 
 ghost use Rattle.std.specs.Prelude.{◌≡◌, ℕ};
@@ -10,19 +11,19 @@ ghost use Rattle.records.specs.Refusals.{number_in, outcome};
 ghost use Rattle.records.specs.Format.{contents};
 ghost use Rattle.records.specs.Calls.{reading_of, writing_of};
 ghost use Rattle.records.specs.Answers.{held, Returns};
+ghost use Rattle.day_file.specs.Walk.{next_of, block_of};
+ghost use Rattle.day_file.specs.Answers.{next};
 ghost use Rattle.properties.specs.Chain.{properties_of};
 ghost use Rattle.properties.specs.PerKilogram.{per_kilogram_of};
 ghost use Rattle.properties.specs.Answers.{numbers, per_kilogram_numbers};
 ghost use Rattle.meter.specs.declared.Meter.{Meter};
 ghost use Rattle.meter.specs.State.{fresh_meter};
 ghost use Rattle.meter.specs.Calls.{analysis_of, metering_of, totals_of, mean_of, mean_inferior_of};
+ghost use Rattle.meter.specs.Days.{day_of};
 ghost use Rattle.lent_meter.specs.Words.{packed, packed_totals};
 ghost use Rattle.lent_meter.specs.Lent.{Lent, OnWords, Leaves, OnReading, OnDay};
 ghost use Rattle.lent_meter.specs.Check.{Tells};
 ghost use Rattle.loonstool.specs.Exports.{in_order, per_kilogram_in_order, analysis, next_word, BlockPut};
-ghost use Rattle.day_file.specs.Walk.{next_of, block_of};
-ghost use Rattle.day_file.specs.Answers.{next};
-ghost use Rattle.meter.specs.Days.{day_of};
 
 use day_file::Next;
 use lent_meter::Words;

@@ -8,17 +8,17 @@ ghost use Rattle.records.specs.Order.{mapped};
 ghost use Rattle.records.specs.Format.{contents};
 ghost use Rattle.records.specs.Calls.{reading_of, writing_of};
 ghost use Rattle.records.specs.Answers.{held, Returns};
+ghost use Rattle.day_file.specs.Walk.{next_of, block_of};
 ghost use Rattle.properties.specs.Chain.{properties_of};
 ghost use Rattle.properties.specs.PerKilogram.{per_kilogram_of};
 ghost use Rattle.meter.specs.declared.Meter.{Meter};
 ghost use Rattle.meter.specs.State.{fresh_meter};
 ghost use Rattle.meter.specs.Calls.{analysis_of, metering_of, totals_of, mean_of, mean_inferior_of};
+ghost use Rattle.meter.specs.Days.{day_of};
 ghost use Rattle.lent_meter.specs.Words.{packed, packed_totals};
 ghost use Rattle.lent_meter.specs.Lent.{Lent, OnWords, Leaves, OnReading, OnDay};
 ghost use Rattle.lent_meter.specs.Check.{Tells};
 ghost use Rattle.loonstool.specs.Exports.{in_order, per_kilogram_in_order, analysis, next_word, BlockPut};
-ghost use Rattle.day_file.specs.Walk.{next_of, block_of};
-ghost use Rattle.meter.specs.Days.{day_of};
 
 use lent_meter::Words;
 

@@ -52,9 +52,10 @@ module _ {A : Type 0} (analysis : A → List ℕ → Outcome A) (metering : A �
       one-volume = ap (λ (d : Day A). d.counts.volumes) is
 
       pub counts_fit : (c.analyses + x.analyses ≤ most) × (c.volumes + x.volumes ≤ most)
-      counts_fit =
-          (omega (arith, rw volumes at t.few_analyses, one-analysis, one_at_most (analysis s b)),
-          omega (arith, rw volumes at t.few_volumes, one-volume, one_at_most (metering (otherwise s (analysis s b)) v)))
+      counts_fit = (
+        omega (arith, rw volumes at t.few_analyses, one-analysis, one_at_most (analysis s b)),
+        omega (arith, rw volumes at t.few_volumes, one-volume, one_at_most (metering (otherwise s (analysis s b)) v)),
+      )
 
       pub one_taken : Taken all most (record { analyses = c.analyses + x.analyses; volumes = c.volumes + x.volumes }) s₁ ds ws
       one_taken =

@@ -1,12 +1,13 @@
 // The meter of document 01: sixteen streams, each with the analysis in force, a volume total, two energies and a mass. Every call on a
-// meter as made or as its calls left it, with any stream, record and volume, gets its answer or the one reason of its refusal. A call
-// that is refused leaves the meter as it was.
+// meter as made or as its calls left it, with any stream, record, volume and day file, gets its answer or the one reason of its refusal. A
+// call that is refused leaves the meter as it was.
 #![tactic(auto)]
 
 ghost use Rattle.std.specs.Prelude.{◌≡◌, [], ◌∷◌, ◌+◌, ◌*◌, ◌^◌, ◌≤◌, ◌<◌, IfOk};
 ghost use Rattle.records.specs.Order.{first_of};
 ghost use Rattle.records.specs.Refusals.{number_in};
 ghost use Rattle.records.specs.Answers.{Gives};
+ghost use Rattle.day_file.specs.Format.{blocks_of};
 ghost use Rattle.properties.specs.Quantities.{Bounded};
 ghost use Rattle.properties.specs.Answers.{numbers};
 ghost use Rattle.meter.specs.State.{last_stream, most_volume, most_total, fresh_meter, SoundEnergy, SoundTotals, SoundStream};
@@ -14,7 +15,6 @@ ghost use Rattle.meter.specs.Conditions.{pair_differs, totals_order};
 ghost use Rattle.meter.specs.Calls.{booked, added, stream_analysis, stream_metering, analysis_of, metering_of, totals_of, mean_over, mean_for, register_of};
 ghost use Rattle.meter.specs.Days.{stream_day, day_of, GivesDay};
 ghost use Rattle.meter.specs.Answers.{totals_meaning, mean_meaning};
-ghost use Rattle.day_file.specs.Format.{blocks_of};
 
 mod day;
 
