@@ -1,4 +1,7 @@
 // What a day comes to.
+ghost use Rattle.std.specs.Prelude.{◌≡◌};
+ghost use Rattle.gasday.specs.Metered.{metered_of, metered_meaning};
+
 use meter::{Counts, Energy, Meter, StreamTotals};
 use properties::quantities::CalorificValue;
 use records::Refusal;
@@ -18,7 +21,9 @@ pub struct Metered {
 }
 
 // What a day file and its volumes come to on a fresh meter, or the refusal of the file.
-pub fn meter_day(file: &[u8], volumes: &[u64]) -> Result<Metered, Refusal> {
+pub fn meter_day(file: &[u8], volumes: &[u64]) -> Result<Metered, Refusal>
+    ensures { metered_meaning result ≡ metered_of file.now volumes.now }
+{
     let mut meter = Meter::new();
     let counts = meter.day(STREAM, file, volumes)?;
     Ok(Metered {
