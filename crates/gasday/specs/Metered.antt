@@ -1,8 +1,9 @@
 -- What a day file and its volumes come to on the first stream of a fresh meter.
-use Rattle.std.specs.Prelude.{List, ℕ, Result}
+use Rattle.std.specs.Prelude.{◌≡◌, true, List, ℕ, Result, take}
 use Rattle.records.specs.declared.refusal.Refusal.{Refusal}
 use Rattle.records.specs.Order.{Outcome, mapped}
 use Rattle.records.specs.Refusals.{outcome}
+use Rattle.day_file.specs.Format.{first_block, no_day_file}
 use Rattle.meter.specs.declared.day.Counts.{Counts}
 use Rattle.meter.specs.declared.StreamTotals.{StreamTotals}
 use Rattle.meter.specs.declared.Meter.{Meter}
@@ -38,3 +39,10 @@ shown m = record { counts = m.counts; totals = m.totals; mean = mean_meaning m.m
 
 abbrev pub metered_meaning : Result Metered Refusal → Outcome Shown
 metered_meaning = outcome shown
+
+-- the first 5 bytes of an input tell whether it is a day file, and where it is none, they are refused by the same number as all of it
+abbrev pub FirstBytesTell : Type 0
+FirstBytesTell = (bs : List ℕ) → no_day_file (take first_block bs) ≡ no_day_file bs
+
+abbrev pub FirstBytesDecide : Type 0
+FirstBytesDecide = (bs volumes : List ℕ) → no_day_file bs ≡ true → metered_of (take first_block bs) volumes ≡ metered_of bs volumes

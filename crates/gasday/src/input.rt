@@ -1,4 +1,7 @@
 // The day file and the volumes, read from the files that the arguments name.
+ghost use Rattle.std.specs.Prelude.{◌≡◌};
+ghost use Rattle.day_file.specs.Format.{no_day_file};
+
 use super::progress::Progress;
 use super::trouble::Trouble;
 use super::volumes::Volumes;
@@ -13,7 +16,9 @@ use std::{fs, io};
 pub const STEP: usize = 1000000;
 
 // Whether bytes begin no day file, which the first 5 of them decide.
-fn begins_none(bytes: &[u8]) -> bool {
+fn begins_none(bytes: &[u8]) -> bool
+    ensures { result ≡ no_day_file bytes.now }
+{
     matches!(
         day_file::next_offset(bytes, FIRST_BLOCK),
         Err(Refusal::NoDayFile)
@@ -66,13 +71,13 @@ fn read_volumes<R: Eprint + Alloc>(
             .take(STEP as u64)
             .read_to_end(&mut part)
             .map_err(Trouble::Volumes)?;
-        volumes.take_all(&part)?;
+        volumes.take_all(&part).map_err(Trouble::Text)?;
         if more < STEP {
             break;
         }
         progress.tell(format_args!("{} volumes read", volumes.count()));
     }
-    volumes.finish()
+    volumes.finish().map_err(Trouble::Text)
 }
 
 pub fn volumes_named<R: Input + Files + Eprint + Alloc>(

@@ -1,5 +1,5 @@
 // Why the program prints no answer.
-use super::volumes::Fault;
+use super::volumes::Unread;
 use std::fmt::{Display, Formatter};
 use std::{fmt, io};
 
@@ -8,7 +8,7 @@ pub enum Trouble {
     Arguments,
     DayFile(io::Error),
     Volumes(io::Error),
-    Line { number: usize, fault: Fault },
+    Text(Unread),
     Output(io::Error),
 }
 
@@ -22,7 +22,7 @@ impl Display for Trouble {
             }
             Trouble::DayFile(reason) => write!(f, "day file: {reason}"),
             Trouble::Volumes(reason) => write!(f, "volumes: {reason}"),
-            Trouble::Line { number, fault } => write!(f, "volumes: line {number} {fault}"),
+            Trouble::Text(reason) => write!(f, "volumes: {reason}"),
             Trouble::Output(reason) => write!(f, "standard output: {reason}"),
         }
     }
