@@ -1,0 +1,4 @@
+pub mod Metered
+pub mod Text
+pub mod Read
+pub mod Lines
