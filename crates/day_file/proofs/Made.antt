@@ -2,16 +2,16 @@
 use mathlib.Core.Path.{◌≡◌, refl, sym, ap, ◌∙◌}
 use mathlib.Core.Bool.{◌&&◌, ◌||◌, false, not}
 use mathlib.Core.List.{List, [], ◌∷◌, ◌++◌, append_assoc, append-nil}
-use Prim.Native.Nat.{ℕ, suc, ◌+◌, ◌*◌, ◌/◌, ◌%◌, ◌≤◌}
+use Prim.Native.Nat.{ℕ, zero, suc, ◌+◌, ◌*◌, ◌/◌, ◌%◌, ◌≤◌}
 use native.Mathlib.Omega.{arith}
 use lib.Dec.{eqb, ltb}
 use lib.ListN.{length, get_or, drop}
-use Rattle.std.proofs.lemmas.List.{length-append, length-take-le, take_at, drop_at, drop-drop, get_or-drop}
+use Rattle.std.proofs.lemmas.List.{length-append, length-drop, length-take-le, take_at, drop_at, drop-drop, get_or-drop}
 use Rattle.std.proofs.lemmas.Bool.{ltb-false, le-ltb, eqb-true, not-false, and_parts, or_parts, or_from}
 use Rattle.records.specs.Format.{Bytes}
 use Rattle.records.proofs.OrderLaws.{unmet}
 use Rattle.day_file.specs.Format.{version, first_block, has_mark, version_in, no_day_file, length_in, block_in, after_block, no_block, Split, split_all, blocks_of, file_order, block_bytes, blocks_bytes, head_bytes, file_of, most_length, EachFits}
-use Rattle.day_file.specs.Walk.{MadeGivesBack, MadeIsWalkedBack, FileIsMadeOfBlocks}
+use Rattle.day_file.specs.Walk.{MadeGivesBack, MadeIsWalkedBack, FileIsMadeOfBlocks, BlocksFit}
 use Rattle.day_file.proofs.Splits.{whole_block, block_and_rest, by_blocks, split_ended, split_begun}
 use Rattle.day_file.proofs.Walks.{walk_gives_blocks}
 
@@ -109,3 +109,20 @@ file_is_made_of_blocks file b h =
     nothing : (l : List ℕ) → ltb 0 (length l) ≡ false → l ≡ []
     nothing [] e = refl
     nothing (x ∷ l) e = absurd (omega (arith, ltb-false 0 (length (x ∷ l)) e))
+
+-- a whole block has at most as many bytes as its length says, and the length has 16 bits
+abbrev IsFit : List ℕ → Type 0
+IsFit bs = Bytes bs → EachFits (split_all bs).blocks
+
+each_fits : (bs : List ℕ) → IsFit bs
+each_fits = by_blocks IsFit (λ bs e b i. rw (split_ended bs e) (omega arith)) one
+  where
+    one : (bs : List ℕ) → no_block bs ≡ false → IsFit (after_block bs) → IsFit bs
+    one bs e rest b = rw (split_begun bs e) each
+      where
+        each : EachFits (block_in bs ∷ (split_all (after_block bs)).blocks)
+        each zero = omega (arith, length-take-le (length_in bs) (drop 2 bs) (omega (arith, whole_block bs e, length-drop 2 bs)), b 0, b 1)
+        each (suc i) = rest (λ j. rw get_or-drop (b (2 + length_in bs + j))) i
+
+pub blocks_fit : BlocksFit
+blocks_fit file b = each_fits (drop first_block file) (λ i. rw get_or-drop (b (first_block + i)))

@@ -1,5 +1,5 @@
 -- The answers of the walk: document 02's number, or the values, for each case.
-use Rattle.std.specs.Prelude.{cond, List, ℕ, Option, Some, None, Result}
+use Rattle.std.specs.Prelude.{cond, List, ℕ, Option, Some, None, option_map, Result}
 use Rattle.std.specs.Borrow.{Bor}
 use Rattle.records.specs.declared.refusal.Refusal.{Refusal}
 use Rattle.records.specs.Order.{Outcome}
@@ -26,13 +26,11 @@ abbrev pub next_meaning : Result Step Refusal → Outcome Next
 next_meaning = outcome next
 
 abbrev pub block_meaning : Option (Bor (List ℕ)) → Option (List ℕ)
-block_meaning None = None
-block_meaning (Some b) = Some b.now
+block_meaning = option_map (λ b. b.now)
 
 -- the block at the front of bytes, and the bytes after it
 abbrev pub front_of : List ℕ → Option (List ℕ × List ℕ)
 front_of bs = cond (no_block bs) None (Some (block_in bs, after_block bs))
 
 abbrev pub split_meaning : Option (Bor (List ℕ) × Bor (List ℕ)) → Option (List ℕ × List ℕ)
-split_meaning None = None
-split_meaning (Some p) = Some (p.0.now, p.1.now)
+split_meaning = option_map (λ p. (p.0.now, p.1.now))

@@ -46,7 +46,7 @@ pub record Split : Type 0 where
   pub blocks : List (List ℕ)
   pub left : List ℕ
 
--- at most n blocks of them; each takes two bytes or more, so there are never as many as bytes
+-- at most n blocks of them; each takes two bytes or more, so there are never more than bytes
 unfoldable pub split : ℕ → List ℕ → Split
 split zero bs = record { blocks = []; left = bs }
 split (suc n) bs =

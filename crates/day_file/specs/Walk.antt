@@ -109,3 +109,7 @@ MadeIsWalkedBack = (bs : List (List ℕ)) → EachFits bs → Walked (file_of bs
 -- and a file that neither 21 nor 23 refuses is the one made from its blocks
 abbrev pub FileIsMadeOfBlocks : Type 0
 FileIsMadeOfBlocks = (file : List ℕ) → Bytes file → first_of (file_order file) ≡ 0 → file_of (blocks_of file) ≡ file
+
+-- the blocks of every file are a list of such blocks
+abbrev pub BlocksFit : Type 0
+BlocksFit = (file : List ℕ) → Bytes file → EachFits (blocks_of file)

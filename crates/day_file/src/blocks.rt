@@ -1,8 +1,8 @@
 // The blocks of a day file, one after the other.
-ghost use Rattle.std.specs.Prelude.{◌≡◌, cond, Some, None, IfOk, length, drop};
+ghost use Rattle.std.specs.Prelude.{◌≡◌, cond, IfOk, length, drop};
 ghost use Rattle.records.specs.Order.{first_of};
 ghost use Rattle.records.specs.Refusals.{number_in};
-ghost use Rattle.day_file.specs.Format.{no_day_file, file_order, blocks_of};
+ghost use Rattle.day_file.specs.Format.{first_block, no_day_file, file_order, blocks_of};
 ghost use Rattle.day_file.specs.Answers.{split_meaning, front_of};
 
 use super::FIRST_BLOCK;
@@ -65,11 +65,6 @@ pub struct DayFile<'a> {
 }
 
 impl<'a> DayFile<'a> {
-    ghost use Rattle.std.specs.Prelude.{◌≡◌, IfOk, drop};
-    ghost use Rattle.records.specs.Order.{first_of};
-    ghost use Rattle.records.specs.Refusals.{number_in};
-    ghost use Rattle.day_file.specs.Format.{file_order, first_block};
-
     // The day file in a list of bytes, or 21 or 23.
     pub fn new(file: &'a [u8]) -> Result<Self, Refusal>
         ensures number { number_in result ≡ first_of (file_order file.now) }

@@ -5,6 +5,7 @@ use Prim.Native.Nat.{ℕ, zero, suc}
 use Rattle.std.proofs.lemmas.List.{map-set}
 use Rattle.records.specs.Order.{Outcome, refused, accepted, decided, otherwise, mapped}
 use Rattle.records.specs.Answers.{number_of}
+use Rattle.records.proofs.OrderLaws.{otherwise_mapped}
 use Rattle.std.specs.Prelude.{Option, Some, None}
 use Rattle.meter.specs.declared.Gas.{Gas}
 use Rattle.meter.specs.declared.StreamTotals.{StreamTotals}
@@ -22,10 +23,6 @@ use Rattle.lent_meter.proofs.Outcomes.{left_alone, leaves_others}
 pub fresh_is_lent : FreshIsLent
 fresh_is_lent = record { meter = fresh_meter; sound = fresh_is_sound; holds = refl }
 
-pub packed_otherwise : (m : Meter) (o : Outcome Meter) → otherwise (packed m) (mapped packed o) ≡ packed (otherwise m o)
-packed_otherwise m (refused n) = refl
-packed_otherwise m (accepted a) = refl
-
 packed_left : (m : Meter) (o : Outcome (Day Meter)) → otherwise (packed m) (left_in (mapped (turned packed) o)) ≡ packed (otherwise m (left_in o))
 packed_left m (refused n) = refl
 packed_left m (accepted d) = refl
@@ -34,7 +31,7 @@ packed_left m (accepted d) = refl
 pub held_after : (call : Meter → Outcome Meter) (m : Meter) {n : ℕ} {before after : List (List ℕ)} → OnWords call before n after → Sound m → before ≡ packed m →
     after ≡ packed (otherwise m (call m))
 held_after call m on sound holds =
-    (on m sound holds).after_is ∙ ap (λ (w : List (List ℕ)). otherwise w (mapped packed (call m))) holds ∙ packed_otherwise m (call m)
+    (on m sound holds).after_is ∙ ap (λ (w : List (List ℕ)). otherwise w (mapped packed (call m))) holds ∙ otherwise_mapped packed m (call m)
 
 module _ (call : Meter → Outcome Meter) (kept : (m : Meter) → Sound m → Sound (otherwise m (call m))) where
   keeps : {n : ℕ} {before after : List (List ℕ)} → OnWords call before n after → Lent before → Lent after

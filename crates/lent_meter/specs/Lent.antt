@@ -32,6 +32,15 @@ OnWords call before number after = (m : Meter) → Sound m → before ≡ packed
 abbrev pub DayOnWords : (Meter → Outcome (Day Meter)) → List (List ℕ) → Result Counts Refusal → List (List ℕ) → Type 0
 DayOnWords call before answer after = (m : Meter) → Sound m → before ≡ packed m → GivesDay (mapped (turned packed) (call m)) before answer after
 
+-- what a day leaves in the memory that is lent: the words, and the counts
+abbrev pub packed_day : Day Meter → List (List ℕ) × List ℕ
+packed_day d = (packed d.left, packed_counts d.counts)
+
+-- a day file on words with memory for its counts: the number, and both afterwards
+abbrev pub OnDay : (Meter → Outcome (Day Meter)) → List (List ℕ) → List ℕ → ℕ → List (List ℕ) → List ℕ → Type 0
+OnDay call before counts number after counted =
+    (m : Meter) → Sound m → before ≡ packed m → Returns (mapped packed_day (call m)) (before, counts) number (after, counted)
+
 -- whatever the words are, such a call leaves the rows of the other streams as they were, and a refusal leaves all of them
 pub record Leaves (k : ℕ) (before : List (List ℕ)) (number : ℕ) (after : List (List ℕ)) : Type 0 where
   pub others : (j : ℕ) → (j ≡ k → ⊥) → get_or after j [] ≡ get_or before j []
@@ -49,19 +58,10 @@ OnMeter call words answer = (m : Meter) → Sound m → words ≡ packed m → a
 abbrev pub OnRow : (Stream → Outcome Stream) → List ℕ → ℕ → List ℕ → Type 0
 OnRow call before number after = (s : Stream) → SoundStream s → before ≡ packed_stream s → Returns (mapped packed_stream (call s)) before number after
 
--- a refusal leaves a row, whatever its words are
-abbrev pub LeavesRow : List ℕ → ℕ → List ℕ → Type 0
-LeavesRow before number after = (number ≡ 0 → ⊥) → after ≡ before
-
--- what a day leaves in the memory that is lent: the words, and the counts
-abbrev pub packed_day : Day Meter → List (List ℕ) × List ℕ
-packed_day d = (packed d.left, packed_counts d.counts)
-
--- a day file on words with memory for its counts: the number, and both afterwards
-abbrev pub OnDay : (Meter → Outcome (Day Meter)) → List (List ℕ) → List ℕ → ℕ → List (List ℕ) → List ℕ → Type 0
-OnDay call before counts number after counted =
-    (m : Meter) → Sound m → before ≡ packed m → Returns (mapped packed_day (call m)) (before, counts) number (after, counted)
-
 -- a day file on a row, where no number refuses it
 abbrev pub DayOnRow : (Stream → Day Stream) → List ℕ → Counts → List ℕ → Type 0
 DayOnRow call before counts after = (s : Stream) → SoundStream s → before ≡ packed_stream s → record { counts = counts; left = after } ≡ turned packed_stream (call s)
+
+-- a refusal leaves a row, whatever its words are
+abbrev pub LeavesRow : List ℕ → ℕ → List ℕ → Type 0
+LeavesRow before number after = (number ≡ 0 → ⊥) → after ≡ before

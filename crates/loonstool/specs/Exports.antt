@@ -1,5 +1,5 @@
 -- What the exported functions give, beside a number: what stands in the memory that the caller lent.
-use Rattle.std.specs.Prelude.{◌≡◌, Bool, true, false, List, [], ◌∷◌, ℕ, ◌<◌, Option, Some, None}
+use Rattle.std.specs.Prelude.{◌≡◌, Bool, List, [], ◌∷◌, ℕ, ◌<◌, Option, is_some, unwrap_or}
 use Rattle.records.specs.declared.Analysis.{Analysis}
 use Rattle.records.specs.Order.{Outcome, refused, accepted}
 use Rattle.records.specs.Format.{Contents}
@@ -49,18 +49,10 @@ next_word at_end = 0
 abbrev pub EndIsNoOffset : Type 0
 EndIsNoOffset = (file : List ℕ) (at next : ℕ) → next_of file at ≡ accepted (offset next) → 0 < next_word (offset next)
 
-abbrev pub is_some : Option (List ℕ) → Bool
-is_some None = false
-is_some (Some b) = true
-
-abbrev pub some_or : Option (List ℕ) → List ℕ → List ℕ
-some_or None other = other
-some_or (Some b) other = b
-
 -- a block in the place that a caller lends for it: true and the block, or false and what stood there
 pub record BlockPut (found : Option (List ℕ)) (before : List ℕ) (answer : Bool) (after : List ℕ) : Type 0 where
   pub told : answer ≡ is_some found
-  pub stands : after ≡ some_or found before
+  pub stands : after ≡ unwrap_or found before
 
 -- an analysis in the places that a caller lends for its parts
 abbrev pub analysis : ℕ → ℕ → ℕ → List ℕ → List ℕ → Analysis

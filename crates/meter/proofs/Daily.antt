@@ -4,12 +4,12 @@ use mathlib.Core.List.{List, [], ◌∷◌}
 use Prim.Native.Nat.{ℕ, ◌+◌, ◌≤◌}
 use native.Mathlib.Omega.{arith}
 use lib.ListN.{length}
-use Rattle.records.specs.Order.{Outcome, refused, accepted, otherwise}
+use Rattle.records.specs.Order.{Outcome, refused, accepted, one_accepted, otherwise}
 use Rattle.meter.specs.declared.day.Counts.{Counts}
-use Rattle.meter.specs.Days.{Day, no_day, one_of, day_by}
+use Rattle.meter.specs.Days.{Day, no_day, day_by}
 
 -- an accepted call counts as one
-one_at_most : {A : Type 0} (o : Outcome A) → one_of o ≤ 1
+one_at_most : {A : Type 0} (o : Outcome A) → one_accepted o ≤ 1
 one_at_most (refused n) = omega arith
 one_at_most (accepted a) = omega arith
 
@@ -45,10 +45,10 @@ module _ {A : Type 0} (analysis : A → List ℕ → Outcome A) (metering : A �
     -- a block and its volume
     module _ {c x : Counts} {s s₁ : A} {bs ds : List (List ℕ)} {vs ws : List ℕ} {b : List ℕ} {v : ℕ} (t : Taken all most c s bs vs) (blocks : bs ≡ b ∷ ds)
         (volumes : vs ≡ v ∷ ws) (is : ◌≡◌ {A = Day A} (record { counts = x; left = s₁ }) (day_by analysis metering s (b ∷ []) (v ∷ []))) where
-      one-analysis : x.analyses ≡ one_of (analysis s b) + 0
+      one-analysis : x.analyses ≡ one_accepted (analysis s b) + 0
       one-analysis = ap (λ (d : Day A). d.counts.analyses) is
 
-      one-volume : x.volumes ≡ one_of (metering (otherwise s (analysis s b)) v) + 0
+      one-volume : x.volumes ≡ one_accepted (metering (otherwise s (analysis s b)) v) + 0
       one-volume = ap (λ (d : Day A). d.counts.volumes) is
 
       pub counts_fit : (c.analyses + x.analyses ≤ most) × (c.volumes + x.volumes ≤ most)

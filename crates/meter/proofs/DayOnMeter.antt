@@ -5,8 +5,8 @@ use Prim.Native.Nat.{ℕ, ◌≤◌, ◌<◌}
 use lib.Dec.{ltb}
 use lib.ListN.{length}
 use lib.Seq.{get_or-set_same, set-set, set-get_or}
-use Rattle.records.specs.Order.{Order, Outcome, refused, accepted, first_of, decided, otherwise, mapped}
-use Rattle.records.proofs.OrderLaws.{mapped_decided}
+use Rattle.records.specs.Order.{Order, Outcome, refused, accepted, one_accepted, first_of, decided, otherwise, mapped}
+use Rattle.records.proofs.OrderLaws.{otherwise_mapped, mapped_decided}
 use Rattle.std.specs.Prelude.{Ok}
 use Rattle.day_file.specs.Format.{blocks_of}
 use Rattle.meter.specs.declared.day.Counts.{Counts}
@@ -15,16 +15,12 @@ use Rattle.meter.specs.declared.Meter.{Meter}
 use Rattle.meter.specs.State.{last_stream, fresh_stream, stream_at, with_stream}
 use Rattle.meter.specs.Conditions.{stream_analysis_order, stream_metering_order, day_order}
 use Rattle.meter.specs.Calls.{analysed, metered, stream_analysis, stream_metering, analysis_of, metering_of}
-use Rattle.meter.specs.Days.{Day, turned, one_of, with_calls, day_by, stream_day, meter_day, day_of, counts_in, left_in, GivesDay}
+use Rattle.meter.specs.Days.{Day, turned, with_calls, day_by, stream_day, meter_day, day_of, counts_in, left_in, GivesDay}
 use Rattle.meter.proofs.Orders.{not_above}
 
-one_of_mapped : {A B : Type 0} (f : A → B) (o : Outcome A) → one_of (mapped f o) ≡ one_of o
-one_of_mapped f (refused n) = refl
-one_of_mapped f (accepted a) = refl
-
-otherwise_mapped : {A B : Type 0} (f : A → B) (a : A) (o : Outcome A) → otherwise (f a) (mapped f o) ≡ f (otherwise a o)
-otherwise_mapped f a (refused n) = refl
-otherwise_mapped f a (accepted b) = refl
+one_mapped : {A B : Type 0} (f : A → B) (o : Outcome A) → one_accepted (mapped f o) ≡ one_accepted o
+one_mapped f (refused n) = refl
+one_mapped f (accepted a) = refl
 
 -- where the single calls agree, so does the day
 module _ {A B : Type 0} (f : A → B) (analysis : A → List ℕ → Outcome A) (metering : A → ℕ → Outcome A) (analysis' : B → List ℕ → Outcome B) (metering' : B → ℕ → Outcome B)
@@ -37,7 +33,7 @@ module _ {A B : Type 0} (f : A → B) (analysis : A → List ℕ → Outcome A) 
       let a₁ = otherwise a o in
       let p = metering a₁ v in
       rw (same_analysis a b, otherwise_mapped f a o, same_metering a₁ v, otherwise_mapped f a₁ p)
-      (ap (with_calls (mapped f o) (mapped f p)) (day_turned bs vs (otherwise a₁ p)) ∙ rw (one_of_mapped f o, one_of_mapped f p))
+      (ap (with_calls (mapped f o) (mapped f p)) (day_turned bs vs (otherwise a₁ p)) ∙ rw (one_mapped f o, one_mapped f p))
 
 module _ (m : Meter) (k : ℕ) (low : k ≤ last_stream) (within : k < length m.streams) where
   at_put_back : (s : Stream) → stream_at (with_stream m k s) k ≡ s

@@ -1,7 +1,7 @@
 -- The metering of a day file: what its blocks and their volumes come to, made as single calls one by one.
 use Rattle.std.specs.Prelude.{◌≡◌, List, [], ◌∷◌, ℕ, ◌+◌, length, Result}
 use Rattle.records.specs.declared.refusal.Refusal.{Refusal}
-use Rattle.records.specs.Order.{Outcome, refused, accepted, first_of, decided, otherwise, mapped}
+use Rattle.records.specs.Order.{Outcome, one_accepted, first_of, decided, otherwise, mapped}
 use Rattle.records.specs.Refusals.{outcome}
 use Rattle.day_file.specs.Format.{blocks_of}
 use Rattle.meter.specs.declared.day.Counts.{Counts}
@@ -20,16 +20,11 @@ module _ {A : Type 0} where
   abbrev pub no_day : A → Day A
   no_day a = record { counts = record { analyses = 0; volumes = 0 }; left = a }
 
-  -- an accepted call counts
-  abbrev pub one_of : Outcome A → ℕ
-  one_of (refused n) = 0
-  one_of (accepted a) = 1
-
   -- with the call of a block and that of its volume before it
   abbrev pub with_calls : Outcome A → Outcome A → Day A → Day A
   with_calls analysis metering d =
       record {
-        counts = record { analyses = one_of analysis + d.counts.analyses; volumes = one_of metering + d.counts.volumes };
+        counts = record { analyses = one_accepted analysis + d.counts.analyses; volumes = one_accepted metering + d.counts.volumes };
         left = d.left;
       }
 

@@ -9,7 +9,7 @@ use Rattle.std.proofs.lemmas.Bool.{cond_both}
 use Rattle.std.specs.Prelude.{Result, Ok, Err}
 use Rattle.std.specs.Result.{IsErrAnd}
 use Rattle.records.specs.declared.refusal.Refusal.{Refusal}
-use Rattle.records.specs.Order.{Order, first_of, condition_of, refused, accepted, decided, otherwise, mapped}
+use Rattle.records.specs.Order.{Order, first_of, condition_of, Outcome, refused, accepted, decided, otherwise, mapped}
 use Rattle.records.specs.Refusals.{Verdict, number, number_in}
 use Rattle.records.specs.Answers.{Gives}
 
@@ -83,6 +83,10 @@ module _ {A : Type 0} where
   pub decided_refused : (n : ℕ) (answer : A) (number : ℕ) → decided n answer ≡ refused number → (number ≡ n) × (number ≡ 0 → ⊥)
   decided_refused zero answer number e = let z : ◌≡◌ {A = ℕ} 0 1 = cc in absurd (omega arith)
   decided_refused (suc n) answer number e = let z : suc n ≡ number = cc in (sym z, λ h. omega arith)
+
+pub otherwise_mapped : {A B : Type 0} (f : A → B) (a : A) (o : Outcome A) → otherwise (f a) (mapped f o) ≡ f (otherwise a o)
+otherwise_mapped f a (refused n) = refl
+otherwise_mapped f a (accepted b) = refl
 
 pub mapped_decided : {A B : Type 0} (f : A → B) (n : ℕ) (answer : A) → mapped f (decided n answer) ≡ decided n (f answer)
 mapped_decided f zero answer = refl

@@ -36,6 +36,11 @@ module _ {A : Type 0} where
   otherwise other (refused n) = other
   otherwise other (accepted a) = a
 
+-- an accepted call counts as one
+abbrev pub one_accepted : {A : Type 0} → Outcome A → ℕ
+one_accepted (refused n) = 0
+one_accepted (accepted a) = 1
+
 -- the same outcome, with its answer turned into another
 abbrev pub mapped : {A B : Type 0} → (A → B) → Outcome A → Outcome B
 mapped f (refused n) = refused n

@@ -1,4 +1,4 @@
--- The numbers of the refusals ("When a call says no" of document 01), and what the answer of a call says by them.
+-- The numbers of the refusals ("When a call says no" of document 01, and W-206 of document 02), and what the answer of a call says by them.
 use Rattle.std.specs.Prelude.{ℕ, Result, Ok, Err}
 use Rattle.records.specs.declared.refusal.Refusal.{Refusal}
 use Rattle.records.specs.declared.refusal.Refusal.TheVariants as refusal

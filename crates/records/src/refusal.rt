@@ -1,10 +1,11 @@
-// Why a call is refused: document 01's conditions, by their numbers.
+// Why a call is refused: the conditions of documents 01 and 02, by their numbers.
 ghost use Rattle.std.specs.Prelude.{◌≡◌};
 ghost use Rattle.records.specs.Refusals.{number};
 
 use std::fmt;
 
-// The first twelve are those of a record, 13 to 18 those of a meter's calls, 19 and 20 the writer's own, and 21 to 23 those of a day file.
+// The first twelve are those of a record, 13 to 18 those of a meter's calls; 19 is the writer's and a day file's, 20 the writer's, and 21 to
+// 23 are a day file's.
 #[derive(Clone, Copy, Debug, PartialEq, Eq)]
 pub enum Refusal {
     TooShort = 1,

@@ -21,11 +21,10 @@ use Rattle.meter.specs.Calls.{analysed, metered, totals_of, mean_in}
 use Rattle.meter.specs.Days.{Day, meter_day, day_of, left_in, counts_meaning, GivesDay}
 use Rattle.meter.specs.Answers.{totals_meaning, mean_meaning}
 use Rattle.tally.specs.Tally.{Energy, Ask, analysis, metering, totals, mean, on, Answer, Listed, single, day, counts_as, single_calls}
-use Rattle.tally.specs.Run.{DayAnswer, TotalsAnswer, MeanAnswer, Step, by_analysis, by_metering, by_day, by_totals, by_mean, listed_by, ended, after}
+use Rattle.tally.specs.Run.{DayAnswer, counted_of, TotalsAnswer, MeanAnswer, Step, by_analysis, by_metering, by_day, by_totals, by_mean, listed_by, ended, after}
 use Rattle.tally.specs.Demand.{EveryListHasRun, HasFresh}
 use Rattle.tally.proofs.Answers.{known, answer_with, answered_by, verdict_with, gives_by}
 use Rattle.tally.proofs.Energies.{register_of, mean_for, mean_returned}
-use Rattle.tally.proofs.Steps.{counted_of}
 
 pub has_fresh : HasFresh
 has_fresh = record { meter = fresh_meter; returns = λ p. refl }

@@ -7,7 +7,7 @@ use borrow.Author.Tests.{ltb-false}
 use lib.ListN.{length}
 use Rattle.records.specs.Order.{Outcome, refused, accepted, first_of, decided, otherwise, mapped}
 use Rattle.records.specs.Answers.{number_of, Returns}
-use Rattle.records.proofs.OrderLaws.{unmet}
+use Rattle.records.proofs.OrderLaws.{unmet, otherwise_mapped}
 use Rattle.day_file.specs.Format.{blocks_of}
 use Rattle.meter.specs.declared.Meter.{Meter}
 use Rattle.meter.specs.State.{Sound, fresh_meter, stream_at}
@@ -19,7 +19,7 @@ use Rattle.lent_meter.specs.Words.{packed_totals, packed}
 use Rattle.lent_meter.specs.Lent.{Leaves, packed_day}
 use Rattle.lent_meter.proofs.Outcomes.{left_alone}
 use Rattle.meter.proofs.Kept.{sound_after_analysis, sound_after_metering, sound_after_day}
-use Rattle.lent_meter.proofs.Kept.{packed_otherwise, leaves_packed, packed_is_injective}
+use Rattle.lent_meter.proofs.Kept.{leaves_packed, packed_is_injective}
 use Rattle.tally.specs.Tally.{last_stream, Ask, analysis, metering, totals, mean, on, Answer, Listed, single, day, counts_as, single_calls}
 use Rattle.tally.proofs.Energies.{mean_for, lent_mean_gave}
 use Rattle.tally.proofs.Exists.{to, to_mut, day_left}
@@ -44,7 +44,7 @@ changes : (m : Meter) (call : Meter → Outcome Meter) (n : Meter) → Sound n �
     Returns (mapped packed (call n)) (packed m) (number_of (mapped packed (call m))) (packed (otherwise m (call m)))
 changes m call =
     of_each m (λ (x : Meter). Returns (mapped packed (call x)) (packed m) (number_of (mapped packed (call m))) (packed (otherwise m (call m))))
-    (record { number_is = refl; after_is = sym (packed_otherwise m (call m)) })
+    (record { number_is = refl; after_is = sym (otherwise_mapped packed m (call m)) })
 
 -- a reading, into memory that held `old`
 reads : {A B : Type 0} (m : Meter) (shown : A → B) (call : Meter → Outcome A) (old : B) (n : Meter) → Sound n → packed m ≡ packed n →

@@ -17,12 +17,11 @@ use Rattle.lent_meter.specs.Words.{packed_totals, packed, meter_in}
 use Rattle.lent_meter.specs.Lent.{Lent, packed_day}
 use Rattle.lent_meter.proofs.Kept.{meter_back, held_after}
 use Rattle.tally.specs.Tally.{Call, Given, done, mean_is, Answer, day_calls, Listed, single, day, Reply, answered, counted}
-use Rattle.tally.specs.Run.{change_answer, totals_given, single_answers, Step, by_analysis, by_metering, by_day, by_totals, by_mean, listed_by, reply_by, Run, ended, after, listed, replies}
+use Rattle.tally.specs.Run.{change_answer, totals_given, day_answers, counted_of, Step, by_analysis, by_metering, by_day, by_totals, by_mean, listed_by, reply_by, Run, ended, after, listed, replies}
 use Rattle.tally.specs.LentRun as lent
 use Rattle.tally.specs.LentRun.{Words, totals_put, counts_put, LentStep, LentRun, lent_listed_by, lent_reply_by, lent_listed, lent_replies, LentRequired, CheckDecides, LentClaim}
 use Rattle.tally.proofs.Energies.{register_of, mean_returned, lent_mean_asked, lent_mean_found}
 use Rattle.tally.proofs.Answers.{known, answered_by}
-use Rattle.tally.proofs.Steps.{counted_of}
 use Rattle.tally.proofs.Demand.{demand3}
 use Rattle.tally.proofs.Exists.{to, to_mut, totals_with, totals_means, mean_with, mean_means, verdict_by, call_gives, day_with, day_left, day_gives, day_with_means}
 
@@ -95,7 +94,7 @@ stepped m h (lent.by_day κs w k f v c n w₁ c₁ gave) =
     let returned = (gave (lent_by h)).0 m h.sound h.same in
     let cs = day_calls k file vs in
     let put = counted (decided n (counts_put c₁.now)) in
-    subst (λ (x : Meter). Stepped m cs (single_answers x cs) w₁.now (day k file vs) put) (sym (ap meter_in h.same ∙ meter_back m))
+    subst (λ (x : Meter). Stepped m cs (day_answers x k file vs) w₁.now (day k file vs) put) (sym (ap meter_in h.same ∙ meter_back m))
     (record {
       meter = day_left m k file vs;
       holds = record { sound = sound_after_day k file vs m h.sound; same = day_held d m h.same i returned };

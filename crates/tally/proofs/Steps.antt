@@ -8,7 +8,7 @@ use lib.Dec.{eqb}
 use lib.ListN.{length, length-set}
 use lib.Seq.{set-get_or}
 use Rattle.records.specs.Refusals.{Verdict}
-use Rattle.records.specs.Order.{Outcome, refused, accepted, first_of, decided, otherwise, mapped}
+use Rattle.records.specs.Order.{Outcome, refused, accepted, one_accepted, first_of, decided, otherwise, mapped}
 use Rattle.records.specs.Answers.{Gives}
 use Rattle.records.proofs.OrderLaws.{mapped_decided}
 use Rattle.day_file.specs.Format.{blocks_of}
@@ -18,14 +18,14 @@ use Rattle.meter.specs.declared.Meter.{Meter}
 use Rattle.meter.specs.State.{Sound, fresh_stream, stream_at, with_stream}
 use Rattle.meter.specs.Conditions.{analysis_order, metering_order, totals_order, mean_order}
 use Rattle.meter.specs.Calls.{analysed, metered, analysis_of, metering_of, after_analysis, after_metering, mean_in}
-use Rattle.meter.specs.Days.{one_of, meter_day, day_of, counts_in, left_in, GivesDay}
+use Rattle.meter.specs.Days.{meter_day, day_of, counts_in, left_in, GivesDay}
 use Rattle.meter.specs.Answers.{totals_meaning, mean_meaning}
 use Rattle.meter.proofs.Orders.{clear_analysis, clear_metering}
 use Rattle.meter.proofs.Outcomes.{meaning_mapped}
 use Rattle.meter.proofs.Streams.{at_put}
 use Rattle.meter.proofs.Kept.{others_stay, sound_after_analysis, sound_after_metering}
-use Rattle.tally.specs.Tally.{last_stream, Ask, analysis, metering, totals, mean, Call, on, Given, done, mean_is, Answer, StreamTally, fresh_stream_tally, Tally, tally_at, with_tally, left_by, given_by, number_for, answer_to, tally_after, answers_to, tallied, day_order_of, day_pairs, day_calls, Listed, single, day, counts_as, Counted, Reply, answered, counted, one_accepted, counted_in, reply_to}
-use Rattle.tally.specs.Run.{DayAnswer, change_answer, totals_given, day_reply, single_answer, single_answers, Step, by_analysis, by_metering, by_day, by_totals, by_mean, listed_by, reply_by}
+use Rattle.tally.specs.Tally.{last_stream, Ask, analysis, metering, totals, mean, Call, on, Given, done, mean_is, Answer, StreamTally, fresh_stream_tally, Tally, tally_at, with_tally, left_by, given_by, number_for, answer_to, tally_after, answers_to, tallied, day_order_of, day_pairs, day_calls, Listed, single, day, counts_as, Counted, Reply, answered, counted, counted_in, reply_to}
+use Rattle.tally.specs.Run.{DayAnswer, change_answer, totals_given, change_given, pair_answers, day_answers, counted_of, day_reply, Step, by_analysis, by_metering, by_day, by_totals, by_mean, listed_by, reply_by}
 use Rattle.tally.specs.Demand.{is_reading, Required, Leaves, StepLeaves, no_call, next_call}
 use Rattle.tally.proofs.Energies.{register_of, mean_found}
 use Rattle.tally.proofs.Alike.{Alike, analysis_order_lem, metering_order_lem, mean_order_lem, analysis_alike, metering_alike, totals_alike, mean_alike}
@@ -113,14 +113,14 @@ module _ (m : Meter) (t : Tally) (h : Linked m t) where
       (record { refusal = λ number e. refl; reading = λ e. refl; others = λ j e. refl })
 
   -- each call, by its definition
-  analysis_next : (k : ℕ) (bs : List ℕ) → Next t m (on k (analysis bs) ∷ []) (single_answer m k (analysis bs) ∷ []) (after_analysis m k bs)
+  analysis_next : (k : ℕ) (bs : List ℕ) → Next t m (on k (analysis bs) ∷ []) (change_given (analysis_of m k bs) ∷ []) (after_analysis m k bs)
   analysis_next k bs =
       let s = stream_at m k in
       let l = tally_at t k in
       changes k (analysis bs) (analysed s bs) (first_of (analysis_order k bs s)) (ap first_of (analysis_order_lem s l (h.each k) k bs))
       (λ z. ((clear_analysis k bs s z).stream, analysis_alike s l (h.each k) k bs z)) refl refl (sound_after_analysis k bs m h.sound)
 
-  metering_next : (k v : ℕ) → Next t m (on k (metering v) ∷ []) (single_answer m k (metering v) ∷ []) (after_metering m k v)
+  metering_next : (k v : ℕ) → Next t m (on k (metering v) ∷ []) (change_given (metering_of m k v) ∷ []) (after_metering m k v)
   metering_next k v =
       let s = stream_at m k in
       let l = tally_at t k in
@@ -129,7 +129,7 @@ module _ (m : Meter) (t : Tally) (h : Linked m t) where
 
 -- the blocks and volumes of a day file one by one
 pairs_next : (k : ℕ) (bs : List (List ℕ)) (vs : List ℕ) (m : Meter) (t : Tally) → Linked m t →
-    Next t m (day_pairs k bs vs) (single_answers m (day_pairs k bs vs)) (meter_day k m bs vs).left
+    Next t m (day_pairs k bs vs) (pair_answers m k bs vs) (meter_day k m bs vs).left
 pairs_next k [] vs m t h = record { answers = refl; linked = h; leaves = no_call m }
 pairs_next k (b ∷ bs) [] m t h = record { answers = refl; linked = h; leaves = no_call m }
 pairs_next k (b ∷ bs) (v ∷ vs) m t h =
@@ -140,15 +140,12 @@ pairs_next k (b ∷ bs) (v ∷ vs) m t h =
     both a (both q (pairs_next k bs vs (after_metering m₁ k v) (tally_after t₁ (on k (metering v))) q.linked))
 
 -- the counts of a day file are those of its single calls
-one_counted : (o : Outcome Meter) → one_of o ≡ one_accepted (mapped (λ (x : Meter). done) o)
+one_counted : (o : Outcome Meter) → one_accepted o ≡ one_accepted (change_given o)
 one_counted (refused n) = refl
 one_counted (accepted m) = refl
 
-abbrev pub counted_of : Counts → Counted
-counted_of c = record { analyses = c.analyses; volumes = c.volumes }
-
 counts_are : (k : ℕ) (bs : List (List ℕ)) (vs : List ℕ) (m : Meter) →
-    counted_of (meter_day k m bs vs).counts ≡ counted_in (day_pairs k bs vs) (single_answers m (day_pairs k bs vs))
+    counted_of (meter_day k m bs vs).counts ≡ counted_in (day_pairs k bs vs) (pair_answers m k bs vs)
 counts_are k [] vs m = refl
 counts_are k (b ∷ bs) [] m = refl
 counts_are k (b ∷ bs) (v ∷ vs) m =
@@ -168,12 +165,15 @@ module _ (k : ℕ) (file vs : List ℕ) (m : Meter) (t : Tally) (h : Linked m t)
   abbrev calls : ℕ → List Call
   calls n = otherwise [] (decided n (day_pairs k (blocks_of file) vs))
 
-  by_number : (n : ℕ) → Next t m (calls n) (single_answers m (calls n)) (otherwise m (left_in (decided n (meter_day k m (blocks_of file) vs))))
+  abbrev given_by_number : ℕ → List Answer
+  given_by_number n = otherwise [] (decided n (pair_answers m k (blocks_of file) vs))
+
+  by_number : (n : ℕ) → Next t m (calls n) (given_by_number n) (otherwise m (left_in (decided n (meter_day k m (blocks_of file) vs))))
   by_number zero = pairs_next k (blocks_of file) vs m t h
   by_number (suc n) = record { answers = refl; linked = h; leaves = no_call m }
 
-  pub day_next : (r : DayAnswer) (after : Meter) → GivesDay (day_of m k file vs) m r after → Next t m (day_calls k file vs) (single_answers m (day_calls k file vs)) after
-  day_next r after gives = subst (Next t m (day_calls k file vs) (single_answers m (day_calls k file vs))) (sym gives.stands) (by_number number)
+  pub day_next : (r : DayAnswer) (after : Meter) → GivesDay (day_of m k file vs) m r after → Next t m (day_calls k file vs) (day_answers m k file vs) after
+  day_next r after gives = subst (Next t m (day_calls k file vs) (day_answers m k file vs)) (sym gives.stands) (by_number number)
 
   counts_by_number : (n : ℕ) → mapped counted_of (counts_in (decided n (meter_day k m (blocks_of file) vs))) ≡ decided n (counted_in (calls n) (answers_to t (calls n)))
   counts_by_number zero =

@@ -104,18 +104,20 @@ a_day = file_of (k2 ∷ [] ∷ k2 ∷ [])
 abbrev pub day_volumes : List ℕ
 day_volumes = 1000 ∷ 10000001 ∷ 1000 ∷ []
 
--- the same file without its last byte, and a volume too few
+-- the same file without its last byte
 abbrev pub cut_day : List ℕ
 cut_day = take (length a_day - 1) a_day
 
--- day files as they are listed, among single calls: refused ones, 13 before 21, 21 before 19, and 23 before 19; one of which two of three
--- analyses and two of three volumes are accepted; and one of the same bytes on the stream 15, into which no gas at another pair comes
+-- day files as they are listed, among single calls: refused ones, 13 before 21, 21 before 19, 23 before 19, and 19 for a volume too few and
+-- for one too many; one of which two of three analyses and two of three volumes are accepted; one of the same bytes on the stream 15, which
+-- takes no gas at their pair; and one of no blocks
 abbrev pub day_list : List (Listed × Reply)
 day_list =
     (day 16 [] [], counted (refused 13))
     ∷ (day 0 [] day_volumes, counted (refused 21))
     ∷ (day 0 cut_day [], counted (refused 23))
     ∷ (day 0 a_day (1000 ∷ 1000 ∷ []), counted (refused 19))
+    ∷ (day 0 a_day (1000 ∷ 1000 ∷ 1000 ∷ 1000 ∷ []), counted (refused 19))
     ∷ (single (on 0 (mean superior)), answered (refused 18))
     ∷ (day 0 a_day day_volumes, counted (accepted (record { analyses = 2; volumes = 2 })))
     ∷ (single (on 0 totals), answered (accepted (totals_are after2000)))

@@ -17,7 +17,7 @@ use Rattle.loonstool.proofs.loonstool_meter_totals.Reads as totals-reads
 use Rattle.loonstool.proofs.loonstool_meter_mean.Reads as mean-reads
 use Rattle.loonstool.proofs.loonstool_meter_mean_inferior.Reads as mean-inferior-reads
 use Rattle.tally.specs.Tally.{Energy, superior, inferior, analysis, metering, totals, mean, Call, on, Given, done, totals_are, mean_is, Answer, day_calls, Listed, single, day, single_calls, Counted, Reply, answered, counted}
-use Rattle.tally.specs.Run.{FreshReturns, single_answers, Run, listed, replies}
+use Rattle.tally.specs.Run.{FreshReturns, day_answers, Run, listed, replies}
 use Rattle.tally.specs.Demand.{Demand3}
 
 abbrev pub Words : Type 0
@@ -74,7 +74,7 @@ pub data LentStep : Words → List Call → List Answer → Words → Type 0 whe
       LentStep w.now (on k (metering v) ∷ []) (decided n done ∷ []) w₁.now
   by_day : (κs : Lfts 4) (w : MutBor Words) (k : ℕ) (f v : Bor (List ℕ)) (c : MutBor (List ℕ)) (n : ℕ) (w₁ : MutBor Words) (c₁ : MutBor (List ℕ)) →
       DayGave κs w k f v c n w₁ c₁ →
-      LentStep w.now (day_calls k f.now v.now) (single_answers (meter_in w.now) (day_calls k f.now v.now)) w₁.now
+      LentStep w.now (day_calls k f.now v.now) (day_answers (meter_in w.now) k f.now v.now) w₁.now
   by_totals : (κs : Lfts 2) (w : Bor Words) (k : ℕ) (t : MutBor (List ℕ)) (n : ℕ) (t₁ : MutBor (List ℕ)) → TotalsGave κs w k t n t₁ →
       LentStep w.now (on k totals ∷ []) (decided n (totals_put t₁.now) ∷ []) w.now
   by_mean : (e : Energy) (κs : Lfts 2) (w : Bor Words) (k : ℕ) (h : MutBor ℕ) (n : ℕ) (h₁ : MutBor ℕ) → MeanGave e κs w k h n h₁ →

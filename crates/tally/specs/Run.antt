@@ -4,9 +4,10 @@ use Rattle.std.specs.Prelude.{List, [], ◌∷◌, ◌++◌, ℕ, Result}
 use contract.Lifetimes.{Lfts}
 use Rattle.std.specs.Borrow.{Bor, MutBor}
 use Rattle.records.specs.declared.refusal.Refusal.{Refusal}
-use Rattle.records.specs.Order.{mapped}
+use Rattle.records.specs.Order.{Outcome, first_of, decided, otherwise, mapped}
 use Rattle.records.specs.Refusals.{Verdict}
 use Rattle.records.specs.Answers.{meaning}
+use Rattle.day_file.specs.Format.{blocks_of}
 use Rattle.properties.specs.declared.quantities.Quantity.{Quantity}
 use Rattle.properties.specs.Quantities.{calorific_bound}
 use Rattle.meter.specs.declared.Meter.{Meter}
@@ -15,7 +16,7 @@ use Rattle.meter.specs.declared.Energy.{Energy as MeterEnergy}
 use Rattle.meter.specs.declared.day.Counts.{Counts}
 use Rattle.meter.specs.declared.Register.{Register}
 use Rattle.meter.specs.declared.StreamTotals.{StreamTotals}
-use Rattle.meter.specs.Calls.{analysis_of, metering_of, after_analysis, after_metering, totals_of, mean_for}
+use Rattle.meter.specs.Calls.{analysis_of, metering_of, after_analysis, after_metering}
 use Rattle.meter.specs.Days.{counts_meaning}
 use Rattle.meter.specs.Answers.{totals_meaning, mean_meaning}
 use Rattle.meter.proofs.Meter.new.Reads as fresh-reads
@@ -24,7 +25,7 @@ use Rattle.meter.proofs.Meter.metering.Reads as metering-reads
 use Rattle.meter.proofs.Meter.day.Reads as day-reads
 use Rattle.meter.proofs.Meter.totals.Reads as totals-reads
 use Rattle.meter.proofs.Meter.mean.Reads as mean-reads
-use Rattle.tally.specs.Tally.{Energy, superior, inferior, Ask, analysis, metering, totals, mean, Call, on, Parts, Given, done, totals_are, mean_is, Answer, day_calls, Listed, single, day, Reply, answered, counted}
+use Rattle.tally.specs.Tally.{Energy, superior, inferior, analysis, metering, totals, mean, Call, on, Parts, Given, done, totals_are, mean_is, Answer, day_order_of, day_calls, Listed, single, day, Counted, Reply, answered, counted}
 
 -- what a day file and the readings answer
 abbrev pub DayAnswer : Type 0
@@ -100,26 +101,27 @@ totals_answer r = mapped totals_given (totals_meaning r)
 abbrev pub mean_answer : MeanAnswer → Answer
 mean_answer r = mapped mean_is (mean_meaning r)
 
+abbrev pub counted_of : Counts → Counted
+counted_of c = record { analyses = c.analyses; volumes = c.volumes }
+
 abbrev pub day_reply : DayAnswer → Reply
-day_reply r = counted (mapped (λ c. record { analyses = c.analyses; volumes = c.volumes }) (counts_meaning r))
+day_reply r = counted (mapped counted_of (counts_meaning r))
 
 -- A day file answers counts alone. Its single calls have the answers that their definitions give, each on the meter as the one before
 -- leaves it.
-abbrev pub single_answer : Meter → ℕ → Ask → Answer
-single_answer m k (analysis bs) = mapped (λ (n : Meter). done) (analysis_of m k bs)
-single_answer m k (metering v) = mapped (λ (n : Meter). done) (metering_of m k v)
-single_answer m k totals = mapped totals_given (totals_of m k)
-single_answer m k (mean e) = mapped mean_is (mean_for (named e) m k)
+abbrev pub change_given : Outcome Meter → Answer
+change_given = mapped (λ (m : Meter). done)
 
-abbrev pub single_left : Meter → ℕ → Ask → Meter
-single_left m k (analysis bs) = after_analysis m k bs
-single_left m k (metering v) = after_metering m k v
-single_left m k totals = m
-single_left m k (mean e) = m
+abbrev pub pair_answers : Meter → ℕ → List (List ℕ) → List ℕ → List Answer
+pair_answers m k [] vs = []
+pair_answers m k (b ∷ bs) [] = []
+pair_answers m k (b ∷ bs) (v ∷ vs) =
+    change_given (analysis_of m k b)
+    ∷ change_given (metering_of (after_analysis m k b) k v)
+    ∷ pair_answers (after_metering (after_analysis m k b) k v) k bs vs
 
-abbrev pub single_answers : Meter → List Call → List Answer
-single_answers m [] = []
-single_answers m (c ∷ cs) = single_answer m c.stream c.ask ∷ single_answers (single_left m c.stream c.ask) cs
+abbrev pub day_answers : Meter → ℕ → List ℕ → List ℕ → List Answer
+day_answers m k file volumes = otherwise [] (decided (first_of (day_order_of k file volumes)) (pair_answers m k (blocks_of file) volumes))
 
 -- one call of a function on a meter: the calls that it counts as, their answers, and the meter that it left
 pub data Step : Meter → List Call → List Answer → Meter → Type 0 where
@@ -128,7 +130,7 @@ pub data Step : Meter → List Call → List Answer → Meter → Type 0 where
   by_metering : (κs : Lfts 1) (w : MutBor Meter) (k v : ℕ) (r : Verdict) (w₁ : MutBor Meter) → MeteringReturns κs w k v r w₁ →
       Step w.now (on k (metering v) ∷ []) (change_answer r ∷ []) w₁.now
   by_day : (κs : Lfts 3) (w : MutBor Meter) (k : ℕ) (f v : Bor (List ℕ)) (r : DayAnswer) (w₁ : MutBor Meter) → DayReturns κs w k f v r w₁ →
-      Step w.now (day_calls k f.now v.now) (single_answers w.now (day_calls k f.now v.now)) w₁.now
+      Step w.now (day_calls k f.now v.now) (day_answers w.now k f.now v.now) w₁.now
   by_totals : (κs : Lfts 1) (w : Bor Meter) (k : ℕ) (r : TotalsAnswer) → TotalsReturns κs w k r → Step w.now (on k totals ∷ []) (totals_answer r ∷ []) w.now
   by_mean : (e : Energy) (κs : Lfts 1) (w : Bor Meter) (k : ℕ) (r : MeanAnswer) → MeanReturns e κs w k r → Step w.now (on k (mean e) ∷ []) (mean_answer r ∷ []) w.now
 

@@ -4,7 +4,7 @@ use Rattle.std.specs.Prelude.{Bool, true, false, not, ◌||◌, cond, List, [], 
 use Rattle.std.proofs.Math.Option.{Option, none, some}
 use Rattle.rounding.specs.Near.{near}
 use Rattle.rounding.specs.Fraction.{Fraction, whole, plus, times}
-use Rattle.records.specs.Order.{Order, Outcome, refused, accepted, first_of, decided, otherwise}
+use Rattle.records.specs.Order.{Order, Outcome, one_accepted, first_of, decided, otherwise}
 use Rattle.records.specs.Format.{combustion_in, metering_in, contents_in}
 use Rattle.records.specs.Conditions.{record_order}
 use Rattle.day_file.specs.Format.{blocks_of, file_order}
@@ -216,7 +216,8 @@ abbrev pub tallied : Tally → List Call → Tally
 tallied t [] = t
 tallied t (c ∷ cs) = tallied (tally_after t c) cs
 
--- the call of document 02, W-206, that meters a day file: its conditions, written apart from those of the meter; 13, 21, 23, 19
+-- the call of document 02, W-206, that meters a day file: 13 and 19 are written apart from those of the meter, 21 and 23 are those of the
+-- file; 13, 21, 23, 19
 abbrev pub day_order_of : ℕ → List ℕ → List ℕ → Order
 day_order_of k file volumes = (13, above_last k) ∷ file_order file ++ ((19, not (eqb (length volumes) (length (blocks_of file)))) ∷ [])
 
@@ -266,10 +267,6 @@ is_metering (analysis bs) = false
 is_metering (metering v) = true
 is_metering totals = false
 is_metering (mean e) = false
-
-abbrev pub one_accepted : Answer → ℕ
-one_accepted (refused n) = 0
-one_accepted (accepted g) = 1
 
 abbrev pub accepted_count : (Ask → Bool) → List Call → List Answer → ℕ
 accepted_count asked [] rs = 0
