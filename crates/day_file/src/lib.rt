@@ -22,7 +22,7 @@ pub enum Place<'a> {
 }
 
 // The offset after a block, or the end of the file.
-#[derive(Clone, Copy, Debug, PartialEq, Eq)]
+#[derive(Clone, Copy)]
 pub enum Next {
     Offset(usize),
     End,

@@ -10,7 +10,7 @@ use day_file::DayFile;
 use records::Refusal;
 
 // How many analyses and how many volumes of a day file were accepted.
-#[derive(Clone, Copy, Debug, Default, PartialEq, Eq)]
+#[derive(Clone, Copy, Default)]
 pub struct Counts {
     pub analyses: usize,
     pub volumes: usize,

@@ -32,7 +32,7 @@ use Rattle.tally.specs.Tally.{last_stream, Ask, analysis, metering, totals, mean
 use Rattle.tally.specs.Demand.{SameInForce, nothing, known}
 use Rattle.tally.specs.Run.{totals_given, listed, replies}
 use Rattle.tally.specs.LentRun.{Words, LentDemand}
-use Rattle.tally.specs.OtherStreams.{calls_on, answers_on, stream_of, listed_on, replies_on, only, of_the_meter, RanFresh, OtherStreams, ChosenStreams, ListedOnStreams, AsIfAlone, AboveRefused, reply_13, AboveReplied, AboveChangesNothing, LentRanFresh, LentOtherStreams, LentListedOnStreams, MixedOtherStreams, LentAboveRefused, LentAboveChangesNothing, EveryListRanFresh}
+use Rattle.tally.specs.OtherStreams.{calls_on, answers_on, stream_of, listed_on, replies_on, only, of_the_meter, RanFresh, OtherStreams, ChosenStreams, ListedOnStreams, AsIfAlone, AboveRefused, reply_13, AboveReplied, AboveChangesNothing, LentRanFresh, LentOtherStreams, LentListedOnStreams, MixedOtherStreams, LentAboveRefused, LentAboveReplied, LentAboveChangesNothing, EveryListRanFresh}
 use Rattle.tally.proofs.Alike.{Alike, totals_alike}
 use Rattle.tally.proofs.Demand.{from_fresh, demand3}
 use Rattle.tally.proofs.Exists.{to_mut, has_fresh, every_list_has_run}
@@ -334,11 +334,16 @@ lent_listed_on_streams chosen cs ds rs ss w v a b same =
     (sym (ap (listed_on chosen) x.same_listed) ∙ same ∙ ap (listed_on chosen) y.same_listed) in
     record {
       replies = rw (x.same_listed, x.same_replies, y.same_listed, y.same_replies) s.replies;
+      answers = s.single.answers;
       rows = λ k low c. row_held a k low ∙ ap packed_stream (s.single.stored k low c).stream ∙ sym (row_held b k low);
     }
 
 pub lent_above_refused : LentAboveRefused
 lent_above_refused cs rs w a = above_refused cs rs (held a).meter (on_meter a)
+
+pub lent_above_replied : LentAboveReplied
+unfolding on_meter held
+lent_above_replied cs rs w a = let h = held a in rw (h.same_listed, h.same_replies) (above_replied cs rs h.meter (on_meter a))
 
 pub lent_above_changes_nothing : LentAboveChangesNothing
 lent_above_changes_nothing cs ds rs ss w v a b same =

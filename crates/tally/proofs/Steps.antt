@@ -24,7 +24,7 @@ use Rattle.meter.proofs.Orders.{clear_analysis, clear_metering}
 use Rattle.meter.proofs.Outcomes.{meaning_mapped}
 use Rattle.meter.proofs.Streams.{at_put}
 use Rattle.meter.proofs.Kept.{others_stay, sound_after_analysis, sound_after_metering}
-use Rattle.tally.specs.Tally.{last_stream, Ask, analysis, metering, totals, mean, Call, on, Given, done, mean_is, Answer, StreamTally, fresh_stream_tally, Tally, tally_at, with_tally, left_by, given_by, number_for, answer_to, tally_after, answers_to, tallied, day_order_of, day_pairs, day_calls, Listed, single, day, counts_as, Counted, Reply, answered, counted, counted_in, reply_to}
+use Rattle.tally.specs.Tally.{last_stream, Ask, analysis, metering, totals, mean, Call, on, Given, done, mean_is, Answer, StreamTally, fresh_stream_tally, Tally, tally_at, with_tally, left_by, given_by, number_for, answer_to, tally_after, answers_to, tallied, day_order_of, day_pairs, day_calls, Listed, single, day, counts_as, Reply, answered, counted, counted_in, reply_to}
 use Rattle.tally.specs.Run.{DayAnswer, change_answer, totals_given, change_given, pair_answers, day_answers, counted_of, day_reply, Step, by_analysis, by_metering, by_day, by_totals, by_mean, listed_by, reply_by}
 use Rattle.tally.specs.Demand.{is_reading, Required, Leaves, StepLeaves, no_call, next_call}
 use Rattle.tally.proofs.Energies.{register_of, mean_found}

@@ -157,6 +157,7 @@ LentOtherStreams =
 pub record LentSameListedOn (chosen : ℕ → Bool) {cs : List Call} {rs : List Answer} {w : Words} (a : LentRanFresh cs rs w) {ds : List Call} {ss : List Answer} {v : Words}
     (b : LentRanFresh ds ss v) : Type 0 where
   pub replies : replies_on chosen (lent_listed a.ran) (lent_replies a.ran) ≡ replies_on chosen (lent_listed b.ran) (lent_replies b.ran)
+  pub answers : answers_on chosen cs rs ≡ answers_on chosen ds ss
   pub rows : (k : ℕ) → k ≤ last_stream → chosen k ≡ true → get_or w k [] ≡ get_or v k []
 
 abbrev pub LentListedOnStreams : Type 0
@@ -178,6 +179,11 @@ MixedOtherStreams =
 abbrev pub LentAboveRefused : Type 0
 LentAboveRefused =
     (cs : List Call) (rs : List Answer) (w : Words) → LentRanFresh cs rs w → answers_on above_last cs rs ≡ map (λ (c : Call). refused 13) (calls_on above_last cs)
+
+abbrev pub LentAboveReplied : Type 0
+LentAboveReplied =
+    (cs : List Call) (rs : List Answer) (w : Words) (a : LentRanFresh cs rs w) →
+    replies_on above_last (lent_listed a.ran) (lent_replies a.ran) ≡ map reply_13 (listed_on above_last (lent_listed a.ran))
 
 pub record LentSameWithout (cs : List Call) (rs : List Answer) (w : Words) (ds : List Call) (ss : List Answer) (v : Words) : Type 0 where
   pub answers : answers_on of_the_meter cs rs ≡ answers_on of_the_meter ds ss
