@@ -15,7 +15,7 @@ use std::{fs, io};
 // After so many bytes it is told how far a file has been read.
 pub const STEP: usize = 1000000;
 
-// Whether bytes begin no day file, which the first 5 of them decide.
+// Whether bytes begin no day file, which the first 5 of them decide: `FirstBytesTell` and `FirstBytesDecide` in specs/Metered.antt.
 fn begins_none(bytes: &[u8]) -> bool
     ensures { result ≡ no_day_file bytes.now }
 {

@@ -1,4 +1,4 @@
-// A text with one volume a line: a whole number of dm³ in decimal digits.
+// A text with one volume a line: a whole number of dm³ in decimal digits. specs/Lines.antt says which texts give volumes.
 ghost use Rattle.std.specs.Prelude.{◌≡◌, ◌+◌, ◌*◌};
 ghost use Rattle.gasday.specs.Text.{longer, step_of, at_end_of};
 
