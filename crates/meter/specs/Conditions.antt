@@ -1,4 +1,4 @@
--- The conditions of refusal of the calls on a meter, with document 01's numbers, and their orders.
+-- The conditions of refusal of the calls on a meter, with the numbers of document 01, and of W-206 in document 02, and their orders.
 use Rattle.std.specs.Prelude.{◌≡◌, Bool, true, false, not, ◌||◌, List, [], ◌∷◌, ◌++◌, ℕ, ◌+◌, eqb, ltb, length, Option, Some, None}
 use Rattle.records.specs.Order.{Order, numbers_of}
 use Rattle.records.specs.Format.{combustion_in, metering_in}
@@ -68,6 +68,7 @@ totals_order k = (13, stream_above k) ∷ []
 abbrev pub mean_order : ℕ → Stream → Order
 mean_order k s = (13, stream_above k) ∷ zero_order (total_zero s.totals.volume)
 
+-- of a day file with so many volumes
 abbrev pub day_order : ℕ → List ℕ → ℕ → Order
 day_order k file volumes = (13, stream_above k) ∷ file_order file ++ ((19, lists_differ file volumes) ∷ [])
 

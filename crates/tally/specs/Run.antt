@@ -107,11 +107,12 @@ counted_of c = record { analyses = c.analyses; volumes = c.volumes }
 abbrev pub day_reply : DayAnswer → Reply
 day_reply r = counted (mapped counted_of (counts_meaning r))
 
--- A day file answers counts alone. Its single calls have the answers that their definitions give, each on the meter as the one before
--- leaves it.
+-- the answer of a call that may change the meter, by its definition
 abbrev pub change_given : Outcome Meter → Answer
 change_given = mapped (λ (m : Meter). done)
 
+-- a day file answers counts alone; its single calls have the answers that their definitions give, each on the meter as the one before
+-- leaves it
 abbrev pub pair_answers : Meter → ℕ → List (List ℕ) → List ℕ → List Answer
 pair_answers m k [] vs = []
 pair_answers m k (b ∷ bs) [] = []

@@ -216,8 +216,8 @@ abbrev pub tallied : Tally → List Call → Tally
 tallied t [] = t
 tallied t (c ∷ cs) = tallied (tally_after t c) cs
 
--- the call of document 02, W-206, that meters a day file: 13 and 19 are written apart from those of the meter, 21 and 23 are those of the
--- file; 13, 21, 23, 19
+-- the conditions of a day file (document 02, W-206), in order: 13, 21, 23, 19; 13 and 19 are written apart from those of the meter, 21 and 23
+-- are those of the file
 abbrev pub day_order_of : ℕ → List ℕ → List ℕ → Order
 day_order_of k file volumes = (13, above_last k) ∷ file_order file ++ ((19, not (eqb (length volumes) (length (blocks_of file)))) ∷ [])
 
@@ -245,17 +245,17 @@ abbrev pub single_calls : List Listed → List Call
 single_calls [] = []
 single_calls (l ∷ ls) = counts_as l ++ single_calls ls
 
--- the reply to a listed call: the answer to a single one; to a day file the number of its refusal, or how many analyses and how many
--- volumes were accepted
+-- how many analyses and how many volumes were accepted
 pub record Counted : Type 0 where
   pub analyses : ℕ
   pub volumes : ℕ
 
+-- the reply to a listed call: the answer to a single one; to a day file the number of its refusal, or the counts
 pub data Reply : Type 0 where
   answered : Answer → Reply
   counted : Outcome Counted → Reply
 
--- of calls with their answers, how many analyses, or meterings, were accepted
+-- a call is an analysis, or a metering
 abbrev pub is_analysis : Ask → Bool
 is_analysis (analysis bs) = true
 is_analysis (metering v) = false
@@ -268,6 +268,7 @@ is_metering (metering v) = true
 is_metering totals = false
 is_metering (mean e) = false
 
+-- of calls with their answers, how many of a kind were accepted
 abbrev pub accepted_count : (Ask → Bool) → List Call → List Answer → ℕ
 accepted_count asked [] rs = 0
 accepted_count asked (c ∷ cs) [] = 0
