@@ -8,10 +8,10 @@ int main(void)
     static struct loonstool_properties properties;
     static struct loonstool_per_kilogram values;
     static struct loonstool_counts counts;
-    static struct loonstool_block block;
     static uint64_t mean;
     static size_t count, next;
     static uint8_t pair[2], lines[LOONSTOOL_LINES];
+    static struct loonstool_block block = {lines, 0};
     static uint32_t fractions[LOONSTOOL_LINES];
     loonstool_meter_check(&meter);
     loonstool_meter_analysis(&meter, 0, NULL, 0);

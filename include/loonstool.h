@@ -81,7 +81,8 @@ extern "C" {
 
 /* The numbers that come back: the first twelve for a record, 13 to 18 from the meter's calls alone, 19 from the writer and where a day
  * file has not as many volumes as blocks, 20 from the writer alone, 21 to 23 for a day file. Where several conditions hold, the number is
- * that of the first in the call's order, in which 9 stands after 10, 11 and 12, and 19 after 23. */
+ * that of the first in the call's order, in which 9 stands after 10, 11 and 12; 19 is the first in the writer's order, and the last in a
+ * day file's. */
 enum loonstool_number {
     LOONSTOOL_ACCEPTED = 0,
     LOONSTOOL_RECORD_SHORT = 1,       /* record shorter than 8 bytes */
@@ -248,8 +249,8 @@ struct loonstool_block {
 };
 
 /* The block at an offset of a day file of `length` bytes: true, and it is in *block, where loonstool_day_next gives the offset after it;
- * else false, and *block stays. Before the call *block must already hold bytes that may be read, at a pointer other than NULL, and their
- * number: those of the file, or of another block. */
+ * else false, and *block stays. Before the call block->bytes has to point to block->length bytes that may be read, and not to be NULL, also
+ * where block->length is 0: the file, or the block of an earlier call. */
 LOONSTOOL_MUST_USE
 bool loonstool_day_block(const uint8_t *file, size_t length, size_t offset, struct loonstool_block *block);
 

@@ -20,12 +20,13 @@ use cases::K2;
 use comparison::{alike, same, Answers, Comparison, Run};
 use counted_calls::{OF_ANALYSIS, OF_DAY, OF_METERING};
 use loonstool::{Meter, Next, Refusal, Words, FIRST_BLOCK, STREAMS};
-use plain::day_file::{block_at, blocks, file_of, head, metered, next_offset, HEAD, LENGTH};
+use plain::day_file::{
+    block_at, blocks, file_of, head, metered, next_offset, starts, HEAD, LENGTH,
+};
 use plain::words::words_of;
 use random_calls::day::{random_blocks, random_day, LONGEST};
 use random_calls::{aim, filling, room, shown};
 use records::{hex, Random};
-use std::iter::successors;
 use std::process::ExitCode;
 
 const FILES: Comparison = Comparison {
@@ -199,15 +200,6 @@ fn with_right_head(file: &[u8]) -> Vec<u8> {
         *place = head();
     }
     file
-}
-
-/// Where the blocks of a file start, and where the walk over it stops: at its end, or at a block that is cut short.
-fn starts(file: &[u8]) -> Vec<usize> {
-    let next = |at: &usize| match next_offset(file, *at) {
-        Ok(Next::Offset(next)) => Some(next),
-        _ => None,
-    };
-    successors(Some(HEAD), next).collect()
 }
 
 /// Offsets at and around those where blocks start, in the head, in the midst, around the end, and far past it; now and then all.

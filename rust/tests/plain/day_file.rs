@@ -2,6 +2,7 @@
 //! bytes.
 
 use loonstool::{Counts, Next};
+use std::iter::successors;
 
 const MARK: [u8; 3] = *b"GDF";
 const VERSION: u16 = 1;
@@ -32,6 +33,16 @@ pub fn blocks(file: &[u8]) -> Result<Vec<&[u8]>, u8> {
         offset += LENGTH + block.len();
     }
     Ok(blocks)
+}
+
+/// Where the blocks of a file start, and where the walk over it stops: at its
+/// end, or at a block that is cut short.
+pub fn starts(file: &[u8]) -> Vec<usize> {
+    let next = |at: &usize| match next_offset(file, *at) {
+        Ok(Next::Offset(next)) => Some(next),
+        _ => None,
+    };
+    successors(Some(HEAD), next).collect()
 }
 
 /// A file of blocks, none longer than 65,535 bytes.

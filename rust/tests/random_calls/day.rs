@@ -3,7 +3,7 @@
 
 use super::random_volume;
 use crate::calls::{day, Call};
-use crate::plain::day_file::{file_of, HEAD, LENGTH};
+use crate::plain::day_file::{file_of, starts, HEAD, LENGTH};
 use crate::records::{self, Random, PAIRS};
 
 /// The most bytes that a block has.
@@ -14,13 +14,14 @@ pub fn random_day(random: &mut Random, streams: &[usize]) -> Call {
     let blocks = random_blocks(random);
     let volumes = random_volumes(random, blocks.len());
     let mut file = file_of(&blocks);
+    let starts = starts(&file);
     let damages = match random.below(8) {
         0..=3 => 0,
         4..=6 => 1,
         _ => 2,
     };
     for _ in 0..damages {
-        damage(random, &mut file, &starts(&blocks));
+        damage(random, &mut file, &starts);
     }
     day(*random.one_of(streams), file, volumes)
 }
@@ -69,15 +70,6 @@ fn random_volumes(random: &mut Random, blocks: usize) -> Vec<u64> {
         _ => blocks,
     };
     (0..number).map(|_| random_volume(random)).collect()
-}
-
-/// Where the blocks start in the file made of them, and where it ends.
-fn starts(blocks: &[Vec<u8>]) -> Vec<usize> {
-    let ends = blocks.iter().scan(HEAD, |at, block| {
-        *at += LENGTH + block.len();
-        Some(*at)
-    });
-    [HEAD].into_iter().chain(ends).collect()
 }
 
 /// Damages a file, whose blocks started at the given places.
