@@ -228,6 +228,15 @@ fn totals_and_counts() {
     }
 }
 
+/// A block of a day file, field by field.
+#[test]
+fn day_block() {
+    let in_c = "\nstruct loonstool_block {\n    const uint8_t *bytes;\n    size_t length;\n};\n";
+    let here = "\nstruct Block {\n    bytes: *const u8,\n    length: usize,\n}\n";
+    assert!(HEADER.contains(in_c));
+    assert!(DAY_FILE_WRAPPER.contains(here));
+}
+
 #[test]
 fn floors() {
     let Properties {

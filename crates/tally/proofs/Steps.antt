@@ -86,7 +86,7 @@ module _ (m : Meter) (t : Tally) (h : Linked m t) where
   -- one that may change its stream
   changes : (k : ℕ) (ask : Ask) (s : Stream) (n : ℕ) → n ≡ number_for t (on k ask) → (n ≡ 0 → (k ≤ last_stream) × Alike s (left_by ask (tally_at t k))) →
       done ≡ given_by ask (tally_at t k) → is_reading ask ≡ false → Sound (otherwise m (decided n (with_stream m k s))) →
-      Next t m (on k ask ∷ []) (mapped (λ (x : Meter). done) (decided n (with_stream m k s)) ∷ []) (otherwise m (decided n (with_stream m k s)))
+      Next t m (on k ask ∷ []) (change_given (decided n (with_stream m k s)) ∷ []) (otherwise m (decided n (with_stream m k s)))
   changes k ask s n is new gives-done changing sound =
       one (on k ask)
       (mapped_decided (λ (x : Meter). done) n (with_stream m k s) ∙ rw (is, gives-done))
@@ -97,7 +97,7 @@ module _ (m : Meter) (t : Tally) (h : Linked m t) where
         others = others_stay n m k s;
       })
     where
-      refused_keeps : (n : ℕ) (number : ℕ) → mapped (λ (x : Meter). done) (decided n (with_stream m k s)) ≡ refused number → otherwise m (decided n (with_stream m k s)) ≡ m
+      refused_keeps : (n : ℕ) (number : ℕ) → change_given (decided n (with_stream m k s)) ≡ refused number → otherwise m (decided n (with_stream m k s)) ≡ m
       refused_keeps zero number e = let z : ⊥ = cc in elim z [ ]
       refused_keeps (suc n) number e = refl
 
@@ -184,11 +184,11 @@ module _ (k : ℕ) (file vs : List ℕ) (m : Meter) (t : Tally) (h : Linked m t)
   day_replied r after gives = ap (λ (o : Outcome Counts). counted (mapped counted_of o)) gives.counts ∙ ap counted (counts_by_number number)
 
 -- what a verdict says, and what stands after it
-given : {m : Meter} {o : Outcome Meter} (v : Verdict) {after : Meter} → Gives o m v after → change_answer v ≡ mapped (λ (x : Meter). done) o
-given v {after} gives = meaning_mapped (λ (x : Meter). done) v after ∙ ap (mapped (λ (x : Meter). done)) gives.means
+given : {m : Meter} {o : Outcome Meter} (v : Verdict) {after : Meter} → Gives o m v after → change_answer v ≡ change_given o
+given v {after} gives = meaning_mapped (λ (x : Meter). done) v after ∙ ap change_given gives.means
 
 changed : {t : Tally} {m : Meter} {c : Call} {o : Outcome Meter} (v : Verdict) {after : Meter} → Gives o m v after →
-    Next t m (c ∷ []) (mapped (λ (x : Meter). done) o ∷ []) (otherwise m o) → Next t m (c ∷ []) (change_answer v ∷ []) after
+    Next t m (c ∷ []) (change_given o ∷ []) (otherwise m o) → Next t m (c ∷ []) (change_answer v ∷ []) after
 changed {t} {m} {c} v gives next = rw (given v gives, gives.stands) next
 
 -- one step

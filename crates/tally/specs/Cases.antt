@@ -1,6 +1,6 @@
 -- The cases K1 to K10 of document 01, K9 among calls on other streams, a computed one of the inferior energy and the mass, day files, and
--- the records of `limit_cases` as analyses, as one list, and one test over the definitions that computes to true over the whole list. Values per
--- kilogram stand in crates/properties/specs/Cases.antt.
+-- the records of `limit_cases` as analyses, as one list, and one test over the definitions that computes to true over the whole list. Values
+-- per kilogram stand in crates/properties/specs/Cases.antt.
 use Rattle.std.specs.Prelude.{◌≡◌, Bool, true, false, ◌&&◌, List, [], ◌∷◌, map, length, take, ℕ, ◌*◌, ◌-◌, eqb, leb, ℤ, pos, nat_abs, ◌-ℤ◌}
 use Rattle.components.specs.Table.{entry_of}
 use Rattle.components.specs.Table as table
@@ -96,11 +96,11 @@ shared =
     ∷ (on 0 (mean superior), accepted (mean_is 37781616))
     ∷ []
 
--- a day file with K2, an empty block and K2 again: the record of the empty block is refused by 1, and the volume beside it by 15
+-- a day file with K2, an empty block, whose record is refused by 1, and K2 again
 abbrev pub a_day : List ℕ
 a_day = file_of (k2 ∷ [] ∷ k2 ∷ [])
 
--- volumes for its blocks
+-- volumes for its blocks: the second is refused by 15
 abbrev pub day_volumes : List ℕ
 day_volumes = 1000 ∷ 10000001 ∷ 1000 ∷ []
 
