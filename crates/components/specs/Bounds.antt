@@ -1,19 +1,20 @@
--- Bounds of the sums of a composition with the least fraction of methane or more, whatever its other lines are; and the order of Hm,
--- inferior and superior, and the most that Hm / M comes to, of any composition.
+-- Bounds of the sums of a composition with a large share of methane or of hydrogen, whatever its other lines are; and the order of Hm,
+-- inferior and superior, and the most that Hm / M comes to, of any composition. Lower bounds are those with hydrogen, upper ones those with
+-- methane.
 use Rattle.std.specs.Prelude.{List, ℕ, ◌*◌, ◌≤◌, ◌<◌, nat_abs}
 use Rattle.components.specs.Table.{molar_mass, summation, superior, inferior, Heat}
-use Rattle.components.specs.Composition.{Composition, least_methane, fraction_for, sum_of}
+use Rattle.components.specs.Composition.{Composition, LargeShare, sum_of}
 
 -- Hm, superior or inferior, unit 10^-9 kJ/mol
 abbrev pub heat_low : ℕ
-heat_low = 401300000000
+heat_low = 217400000000
 
 abbrev pub heat_high : ℕ
 heat_high = 3900000000000
 
 -- M, unit 10^-10 kg/kmol
 abbrev pub mass_low : ℕ
-mass_low = 80000000000
+mass_low = 18140000000
 
 abbrev pub mass_high : ℕ
 mass_high = 800000000000
@@ -33,8 +34,8 @@ pub record Bounds (ls xs : List ℕ) : Type 0 where
   pub mass_high_lem : nat_abs (sum_of molar_mass ls xs) ≤ mass_high
   pub summation_high_lem : (k : ℕ) → k < 3 → nat_abs (sum_of (summation k) ls xs) ≤ summation_high
 
-abbrev pub MethaneBounds : Type 0
-MethaneBounds = (ls xs : List ℕ) → Composition ls xs → least_methane ≤ fraction_for 1 ls xs → Bounds ls xs
+abbrev pub ShareBounds : Type 0
+ShareBounds = (ls xs : List ℕ) → Composition ls xs → LargeShare ls xs → Bounds ls xs
 
 -- Hm inferior is not above Hm superior at the same temperature, the t-th
 abbrev pub InferiorBelow : Type 0

@@ -11,3 +11,4 @@ pub mod FirstBytes
 mod Cases
 mod Numbers
 pub mod LimitBeforeSum
+pub mod HydrogenClass

@@ -12,10 +12,10 @@ use lib.Dec.{T, eqb, eqb→eq, leb, ltb}
 use lib.ListN.{length, get_or, drop, drop_of_length-le}
 use lib.Seq.{drop-cons}
 use Rattle.std.proofs.lemmas.Bool.{or_parts}
-use Rattle.components.specs.Composition.{total, fraction_for}
+use Rattle.components.specs.Composition.{methane, hydrogen, hydrogen_class, total, fraction_for}
 use Rattle.components.proofs.SumLaws.{total_step}
 use Rattle.records.specs.Order.{first_of}
-use Rattle.records.specs.Conditions.{methane, water, line_breaks, fraction_zero, sum_outside, methane_low, above_limit, any_above, water_high, limits_order, lines_order, fractions_order}
+use Rattle.records.specs.Conditions.{water, line_breaks, fraction_zero, sum_outside, methane_low, above_limit, any_above, water_high, limits_order, lines_order, fractions_order}
 
 -- the line number of an entry decides 7, or the entries after it do
 line_step : (ls : List ℕ) (before k : ℕ) → k < length ls →
@@ -46,7 +46,7 @@ Found line ls xs before noted k =
     ((line ≤ before) × (fraction_for line ls xs ≡ noted)) ⊎ ((noted ≡ 0) × (fraction_for line ls xs ≡ fraction_for line (drop k ls) (drop k xs)))
 
 -- what is noted of the entries before k, none of which has fraction 0, in lists where no line number breaks 7
-pub record Noted (ls xs : List ℕ) (sum of_methane : ℕ) (above : Bool) (of_water k : ℕ) : Type 0 where
+pub record Noted (ls xs : List ℕ) (sum of_methane of_hydrogen : ℕ) (outside inside : Bool) (of_water k : ℕ) : Type 0 where
   pub within : k ≤ length ls
   pub small : sum ≤ k * 2 ^ 32
   -- the line number of the last of them
@@ -55,7 +55,9 @@ pub record Noted (ls xs : List ℕ) (sum of_methane : ℕ) (above : Bool) (of_wa
   pub zeros : fraction_zero xs ≡ fraction_zero (drop k xs)
   pub whole : total xs ≡ sum + total (drop k xs)
   pub methane_found : Found methane ls xs before of_methane k
-  pub any_above_lem : any_above ls xs ≡ (above || any_above (drop k ls) (drop k xs))
+  pub hydrogen_found : Found hydrogen ls xs before of_hydrogen k
+  pub outside_lem : any_above false ls xs ≡ (outside || any_above false (drop k ls) (drop k xs))
+  pub inside_lem : any_above true ls xs ≡ (inside || any_above true (drop k ls) (drop k xs))
   pub water_found : Found water ls xs before of_water k
 
 -- one more entry, whose line number is above the one before
@@ -68,7 +70,7 @@ found_step line l x before noted rest whole false is h (inl (p, e)) = inl (omega
 found_step line l x before noted rest whole false is h (inr (z, e)) = inr (z, e)
 
 -- at an entry
-module _ {ls xs : List ℕ} {sum of_methane : ℕ} {above : Bool} {of_water k : ℕ} (n : Noted ls xs sum of_methane above of_water k) (hl : k < length ls) (hx : k < length xs) where
+module _ {ls xs : List ℕ} {sum of_methane of_hydrogen : ℕ} {outside inside : Bool} {of_water k : ℕ} (n : Noted ls xs sum of_methane of_hydrogen outside inside of_water k) (hl : k < length ls) (hx : k < length xs) where
   abbrev l : ℕ
   l = get_or ls k 0
 
@@ -95,9 +97,13 @@ module _ {ls xs : List ℕ} {sum of_methane : ℕ} {above : Bool} {of_water k : 
   found line noted f =
       found_step line l x n.before noted _ _ (eqb l line) (λ t. eqb→eq l line t) (leb-false _ _ (or_parts _ _ lines_here.0).0) (rw (left line) at f)
 
-  pub next_noted : (x ≡ 0 → ⊥) → x < 2 ^ 32
-      → Noted ls xs (sum + x) (cond (eqb l methane) x of_methane) (above || above_limit l x) (cond (eqb l water) x of_water) (k + 1)
+  above_step : (class above : Bool) → any_above class ls xs ≡ (above || any_above class (drop k ls) (drop k xs))
+      → any_above class ls xs ≡ ((above || above_limit class l x) || any_above class (drop (k + 1) ls) (drop (k + 1) xs))
   unfolding any_above
+  above_step class above e = e ∙ rw (add-one, drop-cons ls k 0, drop-cons xs k 0, or_assoc above)
+
+  pub next_noted : (x ≡ 0 → ⊥) → x < 2 ^ 32
+      → Noted ls xs (sum + x) (cond (eqb l methane) x of_methane) (cond (eqb l hydrogen) x of_hydrogen) (outside || above_limit false l x) (inside || above_limit true l x) (cond (eqb l water) x of_water) (k + 1)
   next_noted z w =
       record {
         within = omega arith;
@@ -107,7 +113,9 @@ module _ {ls xs : List ℕ} {sum of_methane : ℕ} {above : Bool} {of_water k : 
         zeros = zeros_step ∙ rw (ne_eqb x 0 z);
         whole = omega (arith, n.whole, total_step xs k hx);
         methane_found = found methane of_methane n.methane_found;
-        any_above_lem = n.any_above_lem ∙ rw (add-one, drop-cons ls k 0, drop-cons xs k 0, or_assoc above);
+        hydrogen_found = found hydrogen of_hydrogen n.hydrogen_found;
+        outside_lem = above_step false outside n.outside_lem;
+        inside_lem = above_step true inside n.inside_lem;
         water_found = found water of_water n.water_found;
       }
 
@@ -117,14 +125,23 @@ unfolding fraction_for
 found_all line ls xs before noted k h (inl (p, e)) = e
 found_all line ls xs before noted k h (inr (z, e)) = e ∙ rw (drop_of_length-le ls h, z)
 
-module _ {ls xs : List ℕ} {sum of_methane : ℕ} {above : Bool} {of_water k : ℕ} (n : Noted ls xs sum of_methane above of_water k) (hl : length ls ≤ k) (hx : length xs ≤ k) where
-  pub all_noted : {r : ℕ} → r ≡ first_of (limits_order (sum_outside sum) (methane_low of_methane) above (water_high of_water))
+module _ {ls xs : List ℕ} {sum of_methane of_hydrogen : ℕ} {outside inside : Bool} {of_water k : ℕ} (n : Noted ls xs sum of_methane of_hydrogen outside inside of_water k) (hl : length ls ≤ k) (hx : length xs ≤ k) where
+  none_left : (class above : Bool) → any_above class ls xs ≡ (above || any_above class (drop k ls) (drop k xs)) → any_above class ls xs ≡ above
+  unfolding any_above
+  none_left class above e = e ∙ rw (drop_of_length-le ls hl, or-false)
+
+  above_is : (class : Bool) → any_above class ls xs ≡ cond class inside outside
+  above_is true = none_left true inside n.inside_lem
+  above_is false = none_left false outside n.outside_lem
+
+  pub all_noted : {r : ℕ} → r ≡ first_of (limits_order (sum_outside sum) (methane_low (hydrogen_class of_hydrogen) of_methane) (cond (hydrogen_class of_hydrogen) inside outside) (water_high (hydrogen_class of_hydrogen) of_water))
       → r ≡ first_of (fractions_order ls xs)
-  unfolding fraction_zero any_above total
+  unfolding fraction_zero total
   all_noted e =
-      let el = drop_of_length-le ls hl in
       let ex = drop_of_length-le xs hx in
       let z : fraction_zero xs ≡ false = n.zeros ∙ rw ex in
       let t : total xs ≡ sum = n.whole ∙ rw (ex, add-zero) in
-      let a : any_above ls xs ≡ above = n.any_above_lem ∙ rw (el, or-false) in
-      e ∙ rw (z, t, found_all methane ls xs n.before of_methane k hl n.methane_found, a, found_all water ls xs n.before of_water k hl n.water_found)
+      let m : fraction_for methane ls xs ≡ of_methane = found_all methane ls xs n.before of_methane k hl n.methane_found in
+      let h : fraction_for hydrogen ls xs ≡ of_hydrogen = found_all hydrogen ls xs n.before of_hydrogen k hl n.hydrogen_found in
+      let w : fraction_for water ls xs ≡ of_water = found_all water ls xs n.before of_water k hl n.water_found in
+      e ∙ rw (z, t, m, h, w, above_is (hydrogen_class of_hydrogen))

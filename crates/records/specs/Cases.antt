@@ -1,4 +1,5 @@
--- The record part of the cases K1 to K8 of document 01, the pairs, the limits, and damaged input: lists, each with a test that computes.
+-- The record part of the cases K1 to K8 of document 01, the pairs, the limits, outside the hydrogen class and in it, and damaged input:
+-- lists, each with a test that computes.
 use Rattle.std.specs.Prelude.{◌≡◌, Bool, true, false, ◌&&◌, List, [], ◌∷◌, ◌++◌, ℕ, zero, suc, ◌+◌, ◌-◌, eqb, length, take, set, replicate}
 use Rattle.components.specs.Tests.{all}
 use Rattle.records.specs.Order.{Outcome, refused, accepted, decided}
@@ -98,9 +99,34 @@ limit_cases =
     ∷ given (contents 15 15 (1 ∷ 2 ∷ up_from 9 3 ++ (52 ∷ 54 ∷ [])) (4294967295 ∷ 150000 ∷ 1 ∷ replicate 8 50000 ++ (300000 ∷ 150000 ∷ []))) 9
     ∷ []
 
--- a gas with each of them, 1,000,000 in all
+-- a gas with each of them, 1,000,000 in all; and one of the hydrogen class
 abbrev pub full_gas : Contents
 full_gas = contents 25 20 all_lines (973300 ∷ replicate 40 500 ++ (200 ∷ replicate 13 500))
+
+abbrev pub full_class_gas : Contents
+full_class_gas = contents 25 20 all_lines (replicate 40 500 ++ (973300 ∷ 200 ∷ replicate 13 500))
+
+-- around the limits of the hydrogen class: hydrogen 900,000 and 899,999, methane and water on their limits and one above, the sums on and
+-- past theirs, 11 before 12, and 12 before 9; no methane, and methane that would be enough outside the class
+abbrev pub class_cases : List Case
+class_cases =
+    given (contents 15 15 (1 ∷ 41 ∷ 52 ∷ []) (50000 ∷ 900000 ∷ 50000 ∷ [])) 0
+    ∷ given (contents 15 15 (1 ∷ 41 ∷ 52 ∷ []) (50001 ∷ 900000 ∷ 49999 ∷ [])) 11
+    ∷ given (contents 15 15 (1 ∷ 41 ∷ 52 ∷ []) (50000 ∷ 899999 ∷ 50001 ∷ [])) 10
+    ∷ given (contents 15 15 (41 ∷ []) (1000000 ∷ [])) 0
+    ∷ given (contents 15 15 (41 ∷ []) (999900 ∷ [])) 0
+    ∷ given (contents 15 15 (41 ∷ []) (1000100 ∷ [])) 0
+    ∷ given (contents 15 15 (41 ∷ []) (999899 ∷ [])) 9
+    ∷ given (contents 15 15 (41 ∷ []) (1000101 ∷ [])) 9
+    ∷ given (contents 15 15 (41 ∷ []) (900000 ∷ [])) 9
+    ∷ given (contents 15 15 (41 ∷ 42 ∷ []) (999800 ∷ 200 ∷ [])) 0
+    ∷ given (contents 15 15 (41 ∷ 42 ∷ []) (999799 ∷ 201 ∷ [])) 12
+    ∷ given (contents 15 15 (41 ∷ 42 ∷ 52 ∷ []) (949798 ∷ 201 ∷ 50001 ∷ [])) 11
+    ∷ given (contents 15 15 (41 ∷ 42 ∷ []) (999900 ∷ 201 ∷ [])) 12
+    ∷ given (contents 15 15 (1 ∷ 41 ∷ []) (100000 ∷ 900000 ∷ [])) 11
+    ∷ given (contents 15 15 (1 ∷ 41 ∷ []) (500000 ∷ 900000 ∷ [])) 11
+    ∷ given (contents 15 15 (41 ∷ []) (4294967295 ∷ [])) 9
+    ∷ []
 
 -- a record at 25/20, byte by byte: methane 1,000,000
 abbrev pub two_temperatures : Case
@@ -120,11 +146,22 @@ pairs =
     ∷ (25, (0, 0)) ∷ (25, (15, 4)) ∷ (25, (20, 0)) ∷ (25, (25, 4))
     ∷ []
 
--- a line at its limit beside methane is accepted, and 1 ppm above it gives the number
-abbrev pub limit_holds : ℕ → ℕ → ℕ → Bool
-limit_holds limit number line =
-    case_holds (given (contents 15 15 (1 ∷ line ∷ []) ((1000000 - limit) ∷ limit ∷ [])) 0)
-    && case_holds (given (contents 15 15 (1 ∷ line ∷ []) ((999999 - limit) ∷ (limit + 1) ∷ [])) number)
+-- a gas of a line beside a main one is accepted with the line on its limit, and with 1 ppm more of it gives the number
+abbrev pub limit_holds : (ℕ → ℕ → List ℕ × List ℕ) → ℕ → ℕ → ℕ → Bool
+limit_holds beside limit number line =
+    let on : List ℕ × List ℕ = beside line limit in
+    let past : List ℕ × List ℕ = beside line (limit + 1) in
+    case_holds (given (contents 15 15 on.0 on.1) 0) && case_holds (given (contents 15 15 past.0 past.1) number)
+
+-- a line beside methane; and beside hydrogen, before or after it
+abbrev pub beside_methane : ℕ → ℕ → List ℕ × List ℕ
+beside_methane line x = (1 ∷ line ∷ [], (1000000 - x) ∷ x ∷ [])
+
+abbrev pub before_hydrogen : ℕ → ℕ → List ℕ × List ℕ
+before_hydrogen line x = (line ∷ 41 ∷ [], x ∷ (1000000 - x) ∷ [])
+
+abbrev pub after_hydrogen : ℕ → ℕ → List ℕ × List ℕ
+after_hydrogen line x = (41 ∷ line ∷ [], (1000000 - x) ∷ x ∷ [])
 
 -- the lines other than methane, ethane, water, nitrogen and carbon dioxide
 abbrev pub other_lines : List ℕ
@@ -200,7 +237,24 @@ abbrev pub LimitCasesHold : Type 0
 LimitCasesHold = all case_holds limit_cases ≡ true
 
 abbrev pub LimitsHold : Type 0
-LimitsHold = (limit_holds 300000 11 52 && limit_holds 150000 11 2 && limit_holds 150000 11 54 && limit_holds 200 12 42 && all (limit_holds 50000 11) other_lines) ≡ true
+LimitsHold =
+    (limit_holds beside_methane 300000 11 52
+    && limit_holds beside_methane 150000 11 2
+    && limit_holds beside_methane 150000 11 54
+    && limit_holds beside_methane 200 12 42
+    && all (limit_holds beside_methane 50000 11) other_lines)
+    ≡ true
+
+abbrev pub FullClassGasHolds : Type 0
+FullClassGasHolds = case_holds (given full_class_gas 0) ≡ true
+
+abbrev pub ClassCasesHold : Type 0
+ClassCasesHold = all case_holds class_cases ≡ true
+
+-- the 40 lines before hydrogen, and the 13 after water
+abbrev pub ClassLimitsHold : Type 0
+ClassLimitsHold =
+    (all (limit_holds before_hydrogen 50000 11) (up_from 40 1) && limit_holds after_hydrogen 200 12 42 && all (limit_holds after_hydrogen 50000 11) (up_from 13 43)) ≡ true
 
 abbrev pub DamagedRefused : Type 0
 DamagedRefused = all (λ (c : List ℕ × ℕ). same_outcome same_contents (reading_of c.0) (refused c.1)) damaged ≡ true

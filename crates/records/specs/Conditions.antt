@@ -1,6 +1,6 @@
 -- The conditions of refusal of a record and of the record writer, with document 01's numbers, and their orders.
 use Rattle.std.specs.Prelude.{◌≡◌, Bool, false, not, ◌&&◌, ◌||◌, cond, List, [], ◌∷◌, ◌++◌, ℕ, eqb, leb, ltb, length}
-use Rattle.components.specs.Composition.{most_sum, least_methane, total, fraction_for}
+use Rattle.components.specs.Composition.{methane, hydrogen, most_sum, least_methane, in_class, total, fraction_for}
 use Rattle.records.specs.Order.{Order, numbers_of}
 use Rattle.records.specs.Format.{Contents, version, head_length, record_length, has_mark, version_in, combustion_in, metering_in, count_in, lines_in, fractions_in}
 
@@ -14,10 +14,7 @@ permitted c m =
     || eqb c 20 && eqb m 20
     || eqb c 25 && eqb m 20
 
--- line numbers
-abbrev pub methane : ℕ
-methane = 1
-
+-- line numbers, beside those of methane and of hydrogen
 abbrev pub ethane : ℕ
 ethane = 2
 
@@ -30,13 +27,17 @@ nitrogen = 52
 abbrev pub carbon_dioxide : ℕ
 carbon_dioxide = 54
 
--- the highest fraction of a line other than methane, which has no upper limit, in ppm
-abbrev pub limit_of : ℕ → ℕ
-limit_of l =
-    cond (eqb l nitrogen) 300000
+-- the highest fraction of a line, in ppm, outside the hydrogen class (false) and in it (true); and the line that has none
+abbrev pub limit_of : Bool → ℕ → ℕ
+limit_of class l =
+    cond (eqb l water) 200
+    (cond class 50000
+    (cond (eqb l nitrogen) 300000
     (cond (eqb l ethane || eqb l carbon_dioxide) 150000
-    (cond (eqb l water) 200
-    50000))
+    50000)))
+
+abbrev pub unlimited : Bool → ℕ
+unlimited class = cond class hydrogen methane
 
 -- 1: record shorter than 8 bytes
 abbrev pub too_short : List ℕ → Bool
@@ -79,22 +80,22 @@ least_sum = 999900
 abbrev pub sum_outside : ℕ → Bool
 sum_outside sum = ltb sum least_sum || ltb most_sum sum
 
--- 10: methane too low, below 500,000
-abbrev pub methane_low : ℕ → Bool
-methane_low x = ltb x least_methane
+-- 10: methane too low, below 500,000; in the hydrogen class it has no lower limit
+abbrev pub methane_low : Bool → ℕ → Bool
+methane_low class x = not class && ltb x least_methane
 
--- 11: a line other than methane and water above its limit
-abbrev pub above_limit : ℕ → ℕ → Bool
-above_limit l x = not (eqb l methane) && not (eqb l water) && ltb (limit_of l) x
+-- 11: a line other than water above its limit
+abbrev pub above_limit : Bool → ℕ → ℕ → Bool
+above_limit class l x = not (eqb l (unlimited class)) && not (eqb l water) && ltb (limit_of class l) x
 
-unfoldable pub any_above : List ℕ → List ℕ → Bool
-any_above [] xs = false
-any_above (l ∷ ls) [] = false
-any_above (l ∷ ls) (x ∷ xs) = above_limit l x || any_above ls xs
+unfoldable pub any_above : Bool → List ℕ → List ℕ → Bool
+any_above class [] xs = false
+any_above class (l ∷ ls) [] = false
+any_above class (l ∷ ls) (x ∷ xs) = above_limit class l x || any_above class ls xs
 
 -- 12: water above 200
-abbrev pub water_high : ℕ → Bool
-water_high x = ltb (limit_of water) x
+abbrev pub water_high : Bool → ℕ → Bool
+water_high class x = ltb (limit_of class water) x
 
 -- 19: the two lists differ in length
 abbrev pub lists_differ : List ℕ → List ℕ → Bool
@@ -116,9 +117,14 @@ limits_order nine ten eleven twelve = (10, ten) ∷ (11, eleven) ∷ (12, twelve
 abbrev pub lists_order : Bool → Bool → Bool → Order
 lists_order nineteen four five = (19, nineteen) ∷ (4, four) ∷ (5, five) ∷ []
 
--- what is made of whether the sum is outside, methane low, another line above its limit, and water high, for line numbers and fractions
+-- What is made of whether the sum is outside, methane low, another line above its limit, and water high, for line numbers and fractions:
+-- by the limits outside the hydrogen class or in it, and by those of their own class
+abbrev pub by_limits : {A : Type 0} → (Bool → Bool → Bool → Bool → A) → List ℕ → List ℕ → Bool → A
+by_limits make ls xs class =
+    make (sum_outside (total xs)) (methane_low class (fraction_for methane ls xs)) (any_above class ls xs) (water_high class (fraction_for water ls xs))
+
 abbrev pub from_limits : {A : Type 0} → (Bool → Bool → Bool → Bool → A) → List ℕ → List ℕ → A
-from_limits make ls xs = make (sum_outside (total xs)) (methane_low (fraction_for methane ls xs)) (any_above ls xs) (water_high (fraction_for water ls xs))
+from_limits make ls xs = by_limits make ls xs (in_class ls xs)
 
 -- 7, and 8, 10 to 12 and 9, of line numbers and fractions
 abbrev pub lines_order : List ℕ → Order

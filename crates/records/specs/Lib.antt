@@ -9,3 +9,4 @@ pub mod RoundTrips
 pub mod Accepted
 pub mod Cases
 pub mod LimitBeforeSum
+pub mod HydrogenClass

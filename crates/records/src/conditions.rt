@@ -2,16 +2,18 @@
 ghost use Rattle.std.specs.Prelude.{◌≡◌};
 ghost use Rattle.records.specs.Order.{first_of};
 ghost use Rattle.records.specs.Refusals.{number_in};
-ghost use Rattle.records.specs.Conditions.{limit_of, count_outside, above_limit, head_order};
+ghost use Rattle.records.specs.Conditions.{limit_of, unlimited, count_outside, above_limit, head_order};
 
 use super::format;
 use super::record::Head;
 use super::refusal::Refusal;
 
-// Lines of the component table, numbers as in a record: an enum of these five would leave the other fifty without a name.
+// Lines of the component table, numbers as in a record: an enum of these six would leave the other 49 without a name.
 pub const METHANE: u8 = 1;
 
 const ETHANE: u8 = 2;
+
+pub const HYDROGEN: u8 = 41;
 
 pub const WATER: u8 = 42;
 
@@ -19,7 +21,7 @@ const NITROGEN: u8 = 52;
 
 const CARBON_DIOXIDE: u8 = 54;
 
-// The limit of every line but those named, and no limit but water's is below it.
+// The limit of most lines, and no limit but water's is below it.
 const COMMON_LIMIT: u32 = 50000;
 
 // 5: n is 0 or above 55.
@@ -57,25 +59,32 @@ pub fn check_head(bytes: &[u8]) -> Result<(), Refusal>
     Ok(())
 }
 
-// The highest fraction of a line other than methane, in ppm.
-pub fn limit_of(line: u8) -> u32
-    ensures { result ≡ limit_of line }
+// The highest fraction of a line, in ppm, outside the hydrogen class or in it.
+pub fn limit_of(class: bool, line: u8) -> u32
+    ensures { result ≡ limit_of class line }
 {
-    match line {
-        NITROGEN => 300000,
-        ETHANE | CARBON_DIOXIDE => 150000,
-        WATER => 200,
+    match (class, line) {
+        (_, WATER) => 200,
+        (false, NITROGEN) => 300000,
+        (false, ETHANE | CARBON_DIOXIDE) => 150000,
         _ => COMMON_LIMIT,
     }
 }
 
-// An entry of a line other than methane and water is above its limit.
-pub fn above_limit(line: u8, fraction: u32) -> bool
-    ensures { result ≡ above_limit line fraction }
+// The line that has no highest fraction.
+fn unlimited(class: bool) -> u8
+    ensures { result ≡ unlimited class }
+{
+    if class { HYDROGEN } else { METHANE }
+}
+
+// An entry of a line other than water is above its limit.
+pub fn above_limit(class: bool, line: u8, fraction: u32) -> bool
+    ensures { result ≡ above_limit class line fraction }
 {
     if fraction <= COMMON_LIMIT {
         return false;
     }
     // `&` leaves no branch in the scan but the one above.
-    (line != METHANE) & (line != WATER) & (limit_of(line) < fraction)
+    (line != unlimited(class)) & (line != WATER) & (limit_of(class, line) < fraction)
 }

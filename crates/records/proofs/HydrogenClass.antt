@@ -1,0 +1,109 @@
+-- Outside the hydrogen class each condition is the former one, and in it each of the former orders had a condition that holds.
+use mathlib.Core.Path.{◌≡◌, refl, sym, ap, subst, ◌∙◌}
+use mathlib.Core.Bool.{Bool, true, false, not, ◌&&◌, ◌||◌, cond}
+use mathlib.Core.List.{List, [], ◌∷◌, ◌++◌}
+use Prim.Native.Nat.{ℕ, ◌≤◌}
+use native.Mathlib.Omega.{arith}
+use borrow.Author.Tests.{ltb-false, eq-eqb}
+use lib.Dec.{T, eqb, eqb→eq, leb→le}
+use lib.Ieee.Fits.{and_r}
+use lib.ListN.{length}
+use Rattle.std.proofs.lemmas.Bool.{or_parts}
+use Rattle.components.specs.Composition.{hydrogen, least_hydrogen, in_class, fraction_for}
+use Rattle.records.specs.Order.{Order, first_of, refused, decided}
+use Rattle.records.specs.Format.{lines_in, fractions_in, contents_in, bytes_of, placed}
+use Rattle.records.specs.Conditions.{ethane, water, nitrogen, carbon_dioxide, limit_of, any_above, content_order, head_order, record_order, start_order, room_order, writer_order}
+use Rattle.records.specs.HydrogenClass.{former_limit_of, former_above_limit, former_any_above, former_content_order, former_record_order, former_writer_order, record_in_class, ReadingStays, WritingStays, AlwaysRefused, AlwaysRefusedWriting, AcceptedReadingStays, AcceptedWritingStays, NoTenInClass, NoTenInClassWriting}
+use Rattle.records.proofs.OrderLaws.{unmet, clear_first, clear_second, decided_accepted, decided_refused}
+
+-- the limit of a line is the former one
+same_limit : (l : ℕ) → limit_of false l ≡ former_limit_of l
+same_limit l =
+    go (eqb l water) (eqb l nitrogen) (eqb l ethane || eqb l carbon_dioxide) (λ w n. apart w n) (λ w n. apart_two w n)
+  where
+    go : (w n e : Bool) → (T w → T n → ⊥) → (T w → T e → ⊥)
+        → ◌≡◌ {A = ℕ} (cond w 200 (cond n 300000 (cond e 150000 50000))) (cond n 300000 (cond e 150000 (cond w 200 50000)))
+    go true true e a b = absurd (a tt tt)
+    go true false true a b = absurd (b tt tt)
+    go true false false a b = refl
+    go false n e a b = refl
+    apart : T (eqb l water) → T (eqb l nitrogen) → ⊥
+    apart w n = omega (arith, eqb→eq l water w, eqb→eq l nitrogen n)
+    apart_two : T (eqb l water) → T (eqb l ethane || eqb l carbon_dioxide) → ⊥
+    apart_two w e = rw (eqb→eq l water w) at e
+
+same_above : (ls xs : List ℕ) → any_above false ls xs ≡ former_any_above ls xs
+unfolding any_above former_any_above
+same_above [] xs = refl
+same_above (l ∷ ls) [] = refl
+same_above (l ∷ ls) (x ∷ xs) = rw (same_limit l, same_above ls xs) refl
+
+same_content : (ls xs : List ℕ) → in_class ls xs ≡ false → content_order ls xs ≡ former_content_order ls xs
+same_content ls xs e = rw (e, same_above ls xs) refl
+
+pub same_record_order : (bs : List ℕ) → record_in_class bs ≡ false → record_order bs ≡ former_record_order bs
+same_record_order bs e = ap (λ (o : Order). head_order bs ++ o) (same_content (lines_in bs) (fractions_in bs) e)
+
+pub reading_stays : ReadingStays
+reading_stays bs e = ap (λ (o : Order). decided (first_of o) (contents_in bs)) (same_record_order bs e)
+
+pub writing_stays : WritingStays
+writing_stays k old e =
+    ap (λ (o : Order). decided (first_of (start_order k ++ (o ++ room_order (length old) (length k.lines)))) (placed old 0 (bytes_of k))) (same_content k.lines k.fractions e)
+
+-- where the former 11 did not hold, hydrogen was at most 50,000
+hydrogen_few : (ls xs : List ℕ) → former_any_above ls xs ≡ false → fraction_for hydrogen ls xs ≤ 50000
+unfolding former_any_above fraction_for
+hydrogen_few [] xs e = omega arith
+hydrogen_few (l ∷ ls) [] e = omega arith
+hydrogen_few (l ∷ ls) (x ∷ xs) e =
+    go (eqb l hydrogen) (λ t. eqb→eq l hydrogen t) (hydrogen_few ls xs (or_parts (former_above_limit l x) (former_any_above ls xs) e).1)
+  where
+    go : (is : Bool) → (T is → l ≡ hydrogen) → fraction_for hydrogen ls xs ≤ 50000 → cond is x (fraction_for hydrogen ls xs) ≤ 50000
+    go true is h = let p = (or_parts (former_above_limit l x) (former_any_above ls xs) e).0 in ltb-false 50000 x (rw (is tt) at p)
+    go false is h = h
+
+outside : (ls xs : List ℕ) → first_of (former_content_order ls xs) ≡ 0 → in_class ls xs ≡ false
+outside ls xs e = go (in_class ls xs) (λ t. leb→le _ _ t)
+  where
+    few : fraction_for hydrogen ls xs ≤ 50000
+    few = hydrogen_few ls xs (unmet (former_content_order ls xs) tt e 11)
+    go : (class : Bool) → (T class → least_hydrogen ≤ fraction_for hydrogen ls xs) → class ≡ false
+    go true is = absurd (omega (arith, is tt, few))
+    go false is = refl
+
+pub always_refused : AlwaysRefused
+always_refused bs k e =
+    let d = decided_accepted (first_of (former_record_order bs)) (contents_in bs) k e in
+    outside (lines_in bs) (fractions_in bs) (clear_second (head_order bs) (former_content_order (lines_in bs) (fractions_in bs)) tt d.0)
+
+pub always_refused_writing : AlwaysRefusedWriting
+always_refused_writing k old new e =
+    let d = decided_accepted (first_of (former_writer_order k (length old))) (placed old 0 (bytes_of k)) new e in
+    let o = former_content_order k.lines k.fractions in
+    outside k.lines k.fractions (clear_first o (room_order (length old) (length k.lines)) tt (clear_second (start_order k) (o ++ room_order (length old) (length k.lines)) tt d.0))
+
+pub accepted_reading_stays : AcceptedReadingStays
+accepted_reading_stays bs k e = reading_stays bs (always_refused bs k e) ∙ e
+
+pub accepted_writing_stays : AcceptedWritingStays
+accepted_writing_stays k old new e = writing_stays k old (always_refused_writing k old new e) ∙ e
+
+-- no condition with the number n holds, in no place of an order
+abbrev never : ℕ → Order → Bool
+never n [] = true
+never n ((m, holds) ∷ rest) = (not (eqb m n) || not holds) && never n rest
+
+not_first : (n : ℕ) (o : Order) → T (never n o) → (n ≡ 0 → ⊥) → n ≡ first_of o → ⊥
+not_first n [] t some e = some e
+not_first n ((m, true) ∷ rest) t some e = absurd (subst (λ (b : Bool). T ((not b || false) && never n rest)) (eq-eqb m n (sym e)) t)
+not_first n ((m, false) ∷ rest) t some e = not_first n rest (and_r (not (eqb m n) || true) (never n rest) t) some e
+
+no_ten : {A : Type 0} (o : Order) (a : A) → T (never 10 o) → decided (first_of o) a ≡ refused 10 → ⊥
+no_ten o a t r = not_first 10 o t (λ z. omega (arith, z)) (decided_refused (first_of o) a 10 r).0
+
+pub no_ten_in_class : NoTenInClass
+no_ten_in_class bs e r = no_ten (record_order bs) (contents_in bs) (rw e tt) r
+
+pub no_ten_in_class_writing : NoTenInClassWriting
+no_ten_in_class_writing k old e r = no_ten (writer_order k (length old)) (placed old 0 (bytes_of k)) (rw e tt) r
