@@ -3,7 +3,7 @@
 use mathlib.Core.Path.{◌≡◌, refl, sym, ap, ◌∙◌}
 use mathlib.Core.List.{List}
 use mathlib.Core.Logic.{inl, inr}
-use Prim.Native.Nat.{ℕ, ◌*◌, ◌^◌, ◌≤◌, ◌<◌}
+use Prim.Native.Nat.{ℕ, ◌+◌, ◌*◌, ◌^◌, ◌≤◌, ◌<◌}
 use native.Mathlib.Nat.{mul-le-mul, mul-le-mul_right}
 use native.Mathlib.Omega.{arith}
 use lib.IntN.{ℤ, pos, nat_abs}
@@ -13,14 +13,15 @@ use mir.Facts.{to_z-of_z}
 use Rattle.rounding.specs.Fraction.{Within, ◌over◌, half, whole}
 use Rattle.rounding.specs.Root.{Root}
 use Rattle.rounding.proofs.NearLaws.{near_half, near_monotone, near_z_half}
+use Rattle.std.proofs.lemmas.Bool.{cond_both}
 use Rattle.std.proofs.lemmas.Int.{fits_signed_from_abs}
 use Rattle.rounding.proofs.FractionLaws.{within_wider, within_one}
 use Rattle.components.specs.Table.{molar_mass, superior, inferior, Heat, Unsigned}
-use Rattle.components.specs.Composition.{sum_of, over_lines}
+use Rattle.components.specs.Composition.{in_class, sum_of, over_lines}
 use Rattle.components.specs.Bounds.{heat_low, heat_high, mass_low, mass_high, heat_by_mass, summation_high, Bounds}
 use Rattle.components.proofs.SumLaws.{sum_is_sizes}
 use Rattle.components.proofs.AllLines.{sums_run_over_all_lines}
-use Rattle.components.proofs.Bounds.{methane_bounds, inferior_below, heat_by_mass_lem}
+use Rattle.components.proofs.Bounds.{share_bounds, inferior_below, heat_by_mass_lem}
 use Rattle.records.specs.Order.{accepted, mapped}
 use Rattle.records.specs.Format.{Contents, contents}
 use Rattle.records.specs.Calls.{reading_of}
@@ -28,15 +29,15 @@ use Rattle.records.specs.Accepted.{Acceptable}
 use Rattle.records.proofs.Accepted.{accepted_is_acceptable}
 use Rattle.properties.specs.Chain.{combustion_place, sum, T, D, HmSuperior, HmInferior, M, S, S9, Z, Hs, Hi, rho, A, G, d, r, W, ideal_calorific, ideal_density, real, wobbe, root_of, six_of}
 use Rattle.properties.specs.Unrounded as unrounded
-use Rattle.properties.specs.Quantities.{density_bound, relative_bound, wobbe_bound, Bounded}
-use Rattle.properties.specs.Bounds.{divisor_low, divisor_high, air_low, air_high, compression_low, calorific_low, calorific_high, density_low, relative_low, ideal_relative_high, ideal_high, wobbe_low, Floored, Proper, DensityByAir}
-use Rattle.properties.specs.Distances.{Indexed, Distances}
+use Rattle.properties.specs.Quantities.{calorific_bound, density_bound, relative_bound, wobbe_bound, Bounded}
+use Rattle.properties.specs.Bounds.{divisor_low, divisor_high, air_low, air_high, compression_low, calorific_low, density_low, relative_low, ideal_relative_high, ideal_high, root_low, wobbe_low, Floored, Proper, DensityByAir}
+use Rattle.properties.specs.Distances.{Indexed, wobbe_distance, Distances}
 use Rattle.properties.specs.PerKilogram.{per_kilogram, unrounded_per_kilogram, mass_basis_of, per_kilogram_distance, PerKilogramShown, MeteringDoesNotMatter}
 use Rattle.properties.specs.Accepted.{Amounts, Squares, EveryAcceptedRecord}
 use Rattle.properties.proofs.Approximations.{z_low, z_within, real_within}
 use Rattle.properties.proofs.Index.{indexed}
 use Rattle.properties.proofs.Air.{by_mass, by_air_lem}
-use Rattle.properties.proofs.StepBounds.{tenth_high, compression_high, divisor_low_lem, temperature_high, air_low_lem, air_high_lem, air_density_high_lem, metering_place_lem, combustion_place_lem, calorific_near, ideal_calorific_high_lem, ideal_calorific_low, density_near, ideal_density_high, ideal_density_low, relative_near, ideal_relative_high_lem, ideal_relative_low, real_high, real_low, root_of_lem, root_low_lem, wobbe_near, wobbe_high, wobbe_low_lem, per_kilogram_high}
+use Rattle.properties.proofs.StepBounds.{tenth_high, compression_high, divisor_low_lem, temperature_high, air_low_lem, air_high_lem, air_density_high_lem, metering_place_lem, combustion_place_lem, calorific_near, ideal_calorific_high_lem, ideal_calorific_low, density_near, ideal_density_high, ideal_density_low, relative_near, ideal_relative_high_lem, ideal_relative_low, ideal_by_relative, real_high, real_low, real_by_real, root_of_lem, root_low_lem, wobbe_near, wobbe_by_root, wobbe_high, wobbe_low_lem, per_kilogram_high}
 
 heats : (c : ℕ) → Heat (superior (combustion_place c)) × Heat (inferior (combustion_place c))
 heats c = let h = combustion_place_lem c in ((omega arith, omega arith), (omega arith, omega arith))
@@ -61,7 +62,7 @@ module _ (k : Contents) (a : Acceptable k) where
       record { HmSuperior = not_negative _ (inr h.0); HmInferior = not_negative _ (inr h.1); M = not_negative _ (inl refl) }
 
   in_bounds : Bounds k.lines k.fractions
-  in_bounds = methane_bounds k.lines k.fractions a.composition a.share
+  in_bounds = share_bounds k.lines k.fractions a.composition a.share
 
   -- a sum of heats is within its bounds
   heat_bounds : (c : ℕ) → Heat c → (heat_low ≤ nat_abs (sum k c)) × (nat_abs (sum k c) ≤ heat_high) × (nat_abs (sum k c) ≤ heat_by_mass * M k)
@@ -146,7 +147,7 @@ module _ (k : Contents) (a : Acceptable k) where
   -- a calorific value of a sum of heats within its bounds is between its own, and within 2 of its unit
   record Calorific (Hm : ℕ) : Type 0 where
     low : calorific_low ≤ real (ideal_calorific Hm (D k)) (Z k)
-    high : real (ideal_calorific Hm (D k)) (Z k) ≤ calorific_high
+    high : real (ideal_calorific Hm (D k)) (Z k) ≤ calorific_bound
     within : Within (whole 2) (real (ideal_calorific Hm (D k)) (Z k)) (unrounded.real (unrounded.ideal_calorific (whole Hm) (D k)) (unrounded.Z k))
 
   calorific : (Hm : ℕ) → heat_low ≤ Hm → Hm ≤ heat_high → Calorific Hm
@@ -154,7 +155,7 @@ module _ (k : Contents) (a : Acceptable k) where
       let ideal = ideal_calorific_high_lem Hm (D k) high D-low in
       record {
         low = real_low _ (Z k) Z-low Z-high calorific_low (ideal_calorific_low Hm (D k) low (omega (arith, D-low)) D-high);
-        high = real_high _ (Z k) Z-low calorific_high (omega (arith, ideal));
+        high = real_high _ (Z k) Z-low calorific_bound (omega (arith, ideal));
         within = real_of _ _ _ (calorific_near Hm (D k) (omega (arith, D-low))) (omega (arith, ideal));
       }
 
@@ -202,21 +203,38 @@ module _ (k : Contents) (a : Acceptable k) where
   unfolding d G
   d_low = real_low _ (Z k) Z-low Z-high relative_low (ideal_relative_low (M k) (A k) mass_low_lem A-low)
 
+  Hs-by-d : Hs k ≤ 2 * d k + 1
+  unfolding Hs d G
+  Hs-by-d = real_by_real (ideal_calorific (HmSuperior k) (D k)) (G k) (Z k) Z-low (ideal_by_relative (HmSuperior k) (M k) (D k) (A k) superior_bounds.2 D-low A-low (ideal_relative_low (M k) (A k) mass_low_lem A-low))
+
   W-high : W k ≤ wobbe_bound
-  unfolding W r Hs
-  W-high = wobbe_high (d k) d_low d_high (Hs k) superior_calorific.high
+  unfolding W r
+  W-high = wobbe_high (d k) d_low d_high (Hs k) Hs-by-d
 
   W-low : wobbe_low ≤ W k
   unfolding W r Hs
   W-low = wobbe_low_lem (d k) d_low d_high (Hs k) superior_calorific.low
 
-  W-within : Indexed 25 (W k) (unrounded.Hs k) (unrounded.d k)
+  r_low : root_low ≤ r k
+  unfolding r
+  r_low = root_low_lem (d k) d_low d_high
+
+  W-by-r : 5 * W k ≤ r k + 30
+  unfolding W r
+  W-by-r = wobbe_by_root (d k) d_low d_high (Hs k) Hs-by-d
+
+  -- W is within t, for a t that is large enough beside r and W
+  indexed_by : (t : ℕ) → 4 * 10 ^ 9 + 2 * (42 * W k) + 2 * (t * 41) + r k ≤ 2 * (t * r k) → t ≤ wobbe_low → Indexed t (W k) (unrounded.Hs k) (unrounded.d k)
   unfolding W r Hs
-  W-within =
+  indexed_by t room small =
       let low = root_low_lem (d k) d_low d_high in
-      let high = wobbe_high (d k) d_low d_high (Hs k) superior_calorific.high in
-      indexed 20 25 (Hs k) _ _ (d k) _ _ _ _ superior_calorific.within d_within (root_of_lem (d k) d_low d_high) (wobbe_near (d k) d_low d_high (Hs k))
-      (omega (arith, low)) (omega (arith, low, high)) (omega (arith, wobbe_low_lem (d k) d_low d_high (Hs k) superior_calorific.low)) (omega (arith, low))
+      indexed 41 t (Hs k) _ _ (d k) _ _ _ _ superior_calorific.within d_within (root_of_lem (d k) d_low d_high) (wobbe_near (d k) d_low d_high (Hs k))
+      (omega (arith, low)) room (omega (arith, W-low)) (omega (arith, low))
+
+  W-within : Indexed (wobbe_distance (in_class k.lines k.fractions)) (W k) (unrounded.Hs k) (unrounded.d k)
+  W-within =
+      cond_both (in_class k.lines k.fractions) 40 25 (λ (t : ℕ). Indexed t (W k) (unrounded.Hs k) (unrounded.d k))
+      (λ e. indexed_by 40 (omega (arith, r_low, W-by-r)) (omega arith)) (λ e. indexed_by 25 (omega (arith, r_low, W-by-r)) (omega arith))
 
   bounded : Bounded (six_of k)
   unfolding Hs Hi

@@ -1,8 +1,8 @@
 -- Bounds of the numbers of each step, from bounds of the numbers that it takes.
 use mathlib.Core.Path.{◌≡◌, refl}
 use mathlib.Core.Bool.{Bool, true, false}
-use Prim.Native.Nat.{ℕ, ◌*◌, ◌-◌, ◌^◌, ◌≤◌, ◌<◌}
-use native.Mathlib.Nat.{mul-le-mul, mul-le-mul_left}
+use Prim.Native.Nat.{ℕ, ◌+◌, ◌*◌, ◌-◌, ◌^◌, ◌≤◌, ◌<◌}
+use native.Mathlib.Nat.{mul-le-mul, mul-le-mul_left, mul-le-mul_right, le_of_mul-le-mul_right}
 use native.Mathlib.Omega.{arith}
 use lib.Dec.{eqb}
 use Rattle.std.proofs.lemmas.Bool.{cond_both}
@@ -13,7 +13,7 @@ use Rattle.rounding.specs.Fraction.{Within, ◌over◌, half}
 use Rattle.rounding.proofs.NearLaws.{near_half, near_z_half, at_most, at_least}
 use Rattle.rounding.proofs.RootLaws.{root_is, root_greatest, below_of_squares}
 use Rattle.components.specs.Bounds.{heat_low, heat_high, mass_low, mass_high, heat_by_mass, summation_high}
-use Rattle.properties.specs.Bounds.{divisor_low, divisor_high, air_low, air_high, compression_low, calorific_low, ideal_calorific_high, calorific_high, density_low, relative_low, ideal_relative_high, ideal_high, root_low, wobbe_low, air_density, air_density_high, by_air}
+use Rattle.properties.specs.Bounds.{divisor_low, divisor_high, air_low, air_high, compression_low, calorific_low, ideal_calorific_high, density_low, relative_low, ideal_relative_high, ideal_high, root_low, root_high, wobbe_low, air_density, air_density_high, by_air}
 use Rattle.properties.specs.Quantities.{relative_bound, wobbe_bound, mass_calorific_bound}
 use Rattle.properties.specs.Chain.{for_metering, temperature, divisor, metering_place, combustion_place, air_factor, tenth, ideal_calorific, ideal_density, ideal_relative, real, root_of, wobbe}
 use Rattle.properties.specs.PerKilogram.{per_kilogram}
@@ -91,6 +91,19 @@ module _ (M : ℕ) where
   pub ideal_relative_low : (A : ℕ) → mass_low ≤ M → air_low ≤ A → relative_low ≤ ideal_relative M A
   ideal_relative_low A h l = at_least (relative_near A) (omega (arith, mul-le-mul h l))
 
+-- Hm is at most 15 × M, so the ideal calorific value I is at most twice G, each in its unit
+twice : (Hm M D A I G : ℕ) → divisor_low * air_low ≤ D * A → Hm ≤ heat_by_mass * M → 2 * (I * D) ≤ 2 * (Hm * 1013250) + D
+    → 2 * (M * A) ≤ 2 * (G * 289626000) + 289626000 → relative_low ≤ G → I * (D * A) ≤ 2 * G * (D * A)
+twice Hm M D A I G both h i g low =
+    omega (arith, mul-le-mul_right A i, mul-le-mul_right A h, g, mul-le-mul_left G both, mul-le-mul_right (D * A) low)
+
+pub ideal_by_relative : (Hm M D A : ℕ) → Hm ≤ heat_by_mass * M → divisor_low ≤ D → air_low ≤ A → relative_low ≤ ideal_relative M A
+    → ideal_calorific Hm D ≤ 2 * ideal_relative M A
+ideal_by_relative Hm M D A h hD hA low =
+    let both : divisor_low * air_low ≤ D * A = mul-le-mul hD hA in
+    le_of_mul-le-mul_right {m = ideal_calorific Hm D} {n = 2 * ideal_relative M A} {k = D * A}
+    (twice Hm M D A _ _ both h (omega (arith, (calorific_near Hm D (omega arith)).below)) (omega (arith, (relative_near M A).above)) low) (omega (arith, both))
+
 -- S9 and Z
 pub tenth_high : (S : ℤ) → nat_abs S ≤ summation_high → nat_abs (tenth S) ≤ 10 ^ 9
 tenth_high S h = at_most (near_z_half S 10 (omega arith)) (omega arith)
@@ -109,6 +122,17 @@ module _ (ideal Z : ℕ) (low : compression_low ≤ Z) where
   pub real_low : Z ≤ 10 ^ 9 → (b : ℕ) → b ≤ ideal → b ≤ real ideal Z
   real_low high b h = at_least real_near (omega (arith, mul-le-mul_left b high))
 
+-- and so Hs is at most twice d, but for 1
+pub real_by_real : (I G Z : ℕ) → compression_low ≤ Z → I ≤ 2 * G → real I Z ≤ 2 * real G Z + 1
+real_by_real I G Z low h =
+    let twice : 2 * real I Z ≤ 4 * real G Z + 3 =
+        le_of_mul-le-mul_right {m = 2 * real I Z} {n = 4 * real G Z + 3} {k = Z}
+        (omega (arith, (real_near I Z low).below, (real_near G Z low).above)) (omega arith) in
+    omega arith
+
+fifth : (Hs d r W : ℕ) → 2 * (W * r) ≤ 2 * (Hs * 10 ^ 9) + r → Hs ≤ 2 * d + 1 → d * 10 ^ 10 < (r + 1) * (r + 1) → root_low ≤ r → 5 * W * r ≤ (r + 30) * r
+fifth Hs d r W w h next low = omega (arith, w, h, next, mul-le-mul_left r low)
+
 -- the index
 module _ (d : ℕ) (d_low : relative_low ≤ d) (d_high : d ≤ relative_bound) where
   pub root_of_lem : Root (root_of d) (d * 10 ^ 10)
@@ -117,17 +141,23 @@ module _ (d : ℕ) (d_low : relative_low ≤ d) (d_high : d ≤ relative_bound) 
   pub root_low_lem : root_low ≤ root_of d
   root_low_lem = root_greatest root_of_lem root_low (omega arith)
 
-  root_high : root_of d < 2 ^ 32
-  root_high = below_of_squares _ (2 ^ 32) (d * 10 ^ 10) root_of_lem.square (omega arith)
+  root_high_lem : root_of d < root_high
+  root_high_lem = below_of_squares _ root_high (d * 10 ^ 10) root_of_lem.square (omega arith)
 
   pub wobbe_near : (Hs : ℕ) → Within half (wobbe Hs (root_of d)) ((Hs * 10 ^ 9) over root_of d)
   wobbe_near Hs = near_half (Hs * 10 ^ 9) (root_of d) (omega (arith, root_low_lem))
 
-  pub wobbe_high : (Hs : ℕ) → Hs ≤ calorific_high → wobbe Hs (root_of d) ≤ wobbe_bound
-  wobbe_high Hs h = at_most (wobbe_near Hs) (omega (arith, root_low_lem))
+  -- W is at most a fifth of r, but for 6
+  pub wobbe_by_root : (Hs : ℕ) → Hs ≤ 2 * d + 1 → 5 * wobbe Hs (root_of d) ≤ root_of d + 30
+  wobbe_by_root Hs h =
+      le_of_mul-le-mul_right {m = 5 * wobbe Hs (root_of d)} {n = root_of d + 30} {k = root_of d}
+      (fifth Hs d (root_of d) (wobbe Hs (root_of d)) (omega (arith, (wobbe_near Hs).below)) h root_of_lem.next root_low_lem) (omega (arith, root_low_lem))
+
+  pub wobbe_high : (Hs : ℕ) → Hs ≤ 2 * d + 1 → wobbe Hs (root_of d) ≤ wobbe_bound
+  wobbe_high Hs h = omega (arith, wobbe_by_root Hs h, root_high_lem)
 
   pub wobbe_low_lem : (Hs : ℕ) → calorific_low ≤ Hs → wobbe_low ≤ wobbe Hs (root_of d)
-  wobbe_low_lem Hs h = at_least (wobbe_near Hs) (omega (arith, root_high))
+  wobbe_low_lem Hs h = at_least (wobbe_near Hs) (omega (arith, root_high_lem))
 
 -- a value per kilogram
 pub per_kilogram_high : {Hm M : ℕ} → 0 < M → Hm ≤ heat_by_mass * M → per_kilogram Hm M ≤ mass_calorific_bound

@@ -30,23 +30,20 @@ air_high = 100000
 abbrev pub compression_low : ℕ
 compression_low = 724000000
 
--- 3. The ideal calorific value, and Hs, unit J/m³; the lower bound is of both, and of Hi
+-- 3. The ideal calorific value, unit J/m³; the lower bound is of Hs and Hi too
 abbrev pub calorific_low : ℕ
-calorific_low = 16680000
+calorific_low = 9030000
 
 abbrev pub ideal_calorific_high : ℕ
 ideal_calorific_high = 175000000
 
-abbrev pub calorific_high : ℕ
-calorific_high = 242000000
-
 -- 4. The ideal density, and rho, unit 10^-8 kg/m³
 abbrev pub density_low : ℕ
-density_low = 33000000
+density_low = 7540000
 
 -- 5. G and d, unit 10^-8; the lower bound is of both
 abbrev pub relative_low : ℕ
-relative_low = 27590000
+relative_low = 6250000
 
 abbrev pub ideal_relative_high : ℕ
 ideal_relative_high = 277000000
@@ -57,12 +54,15 @@ ideal_high = 365000000
 
 -- 6. r, and W, unit J/m³
 abbrev pub root_low : ℕ
-root_low = 525000000
+root_low = 250000000
+
+abbrev pub root_high : ℕ
+root_high = 1975000000
 
 abbrev pub wobbe_low : ℕ
 wobbe_low = 3880000
 
--- no property is below its lower bound
+-- no property is below its lower bound, in the hydrogen class or outside it
 pub record Floored (p : Six) : Type 0 where
   pub Z : compression_low ≤ p.Z
   pub Hs : calorific_low ≤ p.Hs

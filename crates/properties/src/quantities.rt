@@ -59,7 +59,7 @@ impl CalorificValue {
 
     pub const BOUND: u64 = CALORIFIC_BOUND as u64;
 
-    pub const FLOOR: u64 = 16680000;
+    pub const FLOOR: u64 = 9030000;
 }
 
 // A density, unit 10^-8 kg/m³. SCALE of them make 1 kg/m³.
@@ -72,7 +72,7 @@ impl Density {
 
     pub const BOUND: u64 = DENSITY_BOUND as u64;
 
-    pub const FLOOR: u64 = 33000000;
+    pub const FLOOR: u64 = 7540000;
 }
 
 // A relative density, unit 10^-8.
@@ -85,7 +85,7 @@ impl RelativeDensity {
 
     pub const BOUND: u64 = RELATIVE_BOUND as u64;
 
-    pub const FLOOR: u64 = 27590000;
+    pub const FLOOR: u64 = 6250000;
 }
 
 // A Wobbe index, unit J/m³. SCALE of them make 1 MJ/m³.

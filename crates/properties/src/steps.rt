@@ -1,8 +1,8 @@
 // The steps of document 01 from sums to properties, in its order and letters, and from sums to the values per kilogram.
-ghost use Rattle.std.specs.Prelude.{◌≡◌, ◌*◌, ◌^◌, ◌≤◌, ◌<◌, nat_abs};
+ghost use Rattle.std.specs.Prelude.{◌≡◌, ◌+◌, ◌*◌, ◌^◌, ◌≤◌, ◌<◌, nat_abs};
 ghost use Rattle.rounding.specs.Near.{near};
 ghost use Rattle.components.specs.Bounds.{heat_by_mass, summation_high};
-ghost use Rattle.properties.specs.Bounds.{any_heat, any_mass, air_high, calorific_high, relative_low, by_air};
+ghost use Rattle.properties.specs.Bounds.{any_heat, any_mass, air_high, relative_low, by_air};
 ghost use Rattle.properties.specs.Quantities.{calorific_bound, relative_bound};
 ghost use Rattle.properties.specs.Chain.{for_metering, temperature, divisor, air_factor, tenth, compression, ideal_calorific, ideal_density, ideal_relative, root_of, wobbe};
 ghost use Rattle.properties.specs.PerKilogram.{per_kilogram};
@@ -94,10 +94,11 @@ pub fn index(hs: u64, d: u64) -> u64
     rounding::nearest(hs * 1000000000, r)
 }
 
-// 6. The Wobbe index.
+// 6. The Wobbe index, of a calorific value that is at most twice the relative density, each in its unit, but for 1.
 #[tactic(auto, using(crate::proofs::StepBounds::wobbe_high))]
 pub fn wobbe_index(hs: CalorificValue, d: RelativeDensity) -> WobbeIndex
-    requires { (hs.value ≤ calorific_high) × (relative_low ≤ d.value) × (d.value ≤ relative_bound) }
+    requires known { (hs.value ≤ calorific_bound) × (relative_low ≤ d.value) × (d.value ≤ relative_bound) }
+    requires by_density { hs.value ≤ 2 * d.value + 1 }
     ensures { result.value ≡ wobbe hs.value (root_of d.value) }
 {
     WobbeIndex::new(index(hs.value(), d.value()))

@@ -1,16 +1,16 @@
 -- Each step gives its letter of the chain, and the sums keep each step within what it asks.
 use mathlib.Core.Path.{◌≡◌}
-use Prim.Native.Nat.{ℕ, ◌^◌, ◌≤◌}
+use Prim.Native.Nat.{ℕ, ◌*◌, ◌^◌, ◌≤◌}
 use native.Mathlib.Omega.{arith}
 use lib.IntN.{ℤ}
 use mir.Syntax.{w64}
 use mir.Val.{to_z, of_z}
-use Rattle.components.specs.Bounds.{heat_high, mass_low, mass_high}
-use Rattle.properties.specs.Bounds.{air_high, compression_low, ideal_calorific_high, calorific_high, ideal_high, ideal_relative_high, relative_low}
+use Rattle.components.specs.Bounds.{heat_high, mass_low, mass_high, heat_by_mass}
+use Rattle.properties.specs.Bounds.{air_high, compression_low, ideal_calorific_high, ideal_high, ideal_relative_high, relative_low}
 use Rattle.properties.specs.Quantities.{calorific_bound, density_bound, relative_bound}
 use Rattle.properties.specs.Chain.{temperature, divisor, air_factor, compression, tenth, ideal_calorific, ideal_density, ideal_relative, T, D, S9, Z, Hs, Hi, rho, A, G, d, r, W}
 use Rattle.properties.specs.Accepted.{Summed}
-use Rattle.properties.proofs.StepBounds.{compression_high, divisor_low_lem, air_low_lem, air_high_lem, ideal_calorific_high_lem, ideal_density_high, ideal_relative_high_lem, ideal_relative_low, real_high, real_low, real_fits}
+use Rattle.properties.proofs.StepBounds.{compression_high, divisor_low_lem, air_low_lem, air_high_lem, ideal_calorific_high_lem, ideal_density_high, ideal_relative_high_lem, ideal_relative_low, ideal_by_relative, real_high, real_low, real_by_real, real_fits}
 use Rattle.properties.proofs.Gas.{superior_bounds, inferior_bounds, mass_low_lem, mass_high_lem, summation_high_lem, summation_word, Z-low}
 use Rattle.properties.proofs.properties_from.Goals as goal
 
@@ -20,6 +20,9 @@ module _ {superior inferior mass metering : ℕ} {summation : ℤ} (q : Summed s
 
   inferior_most : inferior ≤ heat_high
   inferior_most = rw q.sums.inferior_is (inferior_bounds q.gas q.acceptable).1
+
+  superior_by_mass : superior ≤ heat_by_mass * mass
+  superior_by_mass = rw (q.sums.superior_is, q.sums.mass_is) (superior_bounds q.gas q.acceptable).2
 
   mass_least : mass_low ≤ mass
   mass_least = rw q.sums.mass_is (mass_low_lem q.gas q.acceptable)
@@ -49,6 +52,12 @@ module _ {superior inferior mass metering : ℕ} {summation : ℤ} (q : Summed s
 
   relative_least : {air ideal : ℕ} → air ≡ air_factor metering → ideal ≡ ideal_relative mass air → relative_low ≤ ideal
   relative_least {air} a e = rw e (ideal_relative_low mass air mass_least (rw a (air_low_lem metering)))
+
+  heat_relative : {air ideal relative : ℕ} → air ≡ air_factor metering → ideal ≡ ideal_calorific superior (divisor (temperature metering))
+      → relative ≡ ideal_relative mass air → ideal ≤ 2 * relative
+  heat_relative {air} a i g =
+      rw (i, g)
+      (ideal_by_relative superior mass _ air superior_by_mass (divisor_low_lem metering) (rw a (air_low_lem metering)) (ideal_relative_low mass air mass_least (rw a (air_low_lem metering))))
 
 pub compression_factor-z-requires : goal.compression_factor-z-requires
 compression_factor-z-requires c = let q = c.requires in rw (word q, q.sums.summation_is) (summation_high_lem q.gas q.acceptable)
@@ -85,17 +94,22 @@ real-d-requires c =
     let ideal = relative_ideal c.requires c.air_factor-air.ensures c.ideal_relative_density.ensures in
     (omega arith, real_fits ideal_relative_high relative_bound ideal (compression_least c.requires c.compression_factor-z.ensures) (omega arith))
 
-pub wobbe_index-w-requires : goal.wobbe_index-w-requires
-wobbe_index-w-requires c =
+pub wobbe_index-w-requires-clause-known : goal.wobbe_index-w-requires-clause-known
+wobbe_index-w-requires-clause-known c =
     let z = compression_least c.requires c.compression_factor-z.ensures in
     let z_most : c.compression_factor-z.result.value ≤ 10 ^ 9 = rw c.compression_factor-z.ensures (compression_high _) in
     let heat = heat_ideal c.requires (superior_most c.requires) c.ideal_calorific_value.ensures in
     let most = relative_ideal c.requires c.air_factor-air.ensures c.ideal_relative_density.ensures in
     let least = relative_least c.requires c.air_factor-air.ensures c.ideal_relative_density.ensures in (
-      rw c.real-hs.ensures (real_high _ _ z calorific_high (omega (arith, heat))),
+      rw c.real-hs.ensures (real_high _ _ z calorific_bound (omega (arith, heat))),
       rw c.real-d.ensures (real_low _ _ z z_most relative_low least),
       rw c.real-d.ensures (real_high _ _ z relative_bound (omega (arith, most))),
     )
+
+pub wobbe_index-w-requires-clause-by_density : goal.wobbe_index-w-requires-clause-by_density
+wobbe_index-w-requires-clause-by_density c =
+    rw (c.real-hs.ensures, c.real-d.ensures)
+    (real_by_real _ _ _ (compression_least c.requires c.compression_factor-z.ensures) (heat_relative c.requires c.air_factor-air.ensures c.ideal_calorific_value.ensures c.ideal_relative_density.ensures))
 
 -- the chain of any composition with these sums
 pub returns : goal.returns
