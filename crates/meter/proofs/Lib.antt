@@ -8,3 +8,4 @@ pub mod Outcomes
 pub mod Daily
 pub mod DayOnMeter
 mod LimitBeforeSum
+mod HydrogenClass

@@ -5,4 +5,6 @@ pub mod Calls
 pub mod Days
 pub mod Answers
 pub mod Kept
+pub mod ByOrder
 pub mod LimitBeforeSum
+pub mod HydrogenClass

@@ -2,21 +2,20 @@
 -- (crates/records/specs/LimitBeforeSum.antt): only refusals by 9 where one of 10 to 12 holds too differ. What is accepted, and the meter
 -- after it, are the same.
 use Rattle.std.specs.Prelude.{◌≡◌, List, [], ◌∷◌, ◌++◌, ℕ}
-use Rattle.records.specs.Order.{Order, first_of, numbers_of, condition_of, Outcome, decided}
-use Rattle.records.specs.Format.{combustion_in, metering_in}
+use Rattle.records.specs.Order.{Order, numbers_of, condition_of, Outcome}
 use Rattle.records.specs.LimitBeforeSum.{former_record_order, former_record_numbers, record_limit_number, renumbered}
 use Rattle.meter.specs.declared.Meter.{Meter}
 use Rattle.meter.specs.declared.Stream.{Stream}
-use Rattle.meter.specs.State.{stream_at, with_stream}
-use Rattle.meter.specs.Conditions.{stream_above, pair_differs, pair_order, analysis_order}
-use Rattle.meter.specs.Calls.{analysed, analysis_of}
+use Rattle.meter.specs.Conditions.{analysis_order}
+use Rattle.meter.specs.Calls.{analysis_of}
+use Rattle.meter.specs.ByOrder.{analysis_order_by, analysis_by}
 
 -- the former order, and what the call gave by it
 abbrev pub former_analysis_order : ℕ → List ℕ → Stream → Order
-former_analysis_order k bs s = (13, stream_above k) ∷ former_record_order bs ++ pair_order (pair_differs s.analysis (combustion_in bs) (metering_in bs))
+former_analysis_order = analysis_order_by former_record_order
 
 abbrev pub former_analysis_of : Meter → ℕ → List ℕ → Outcome Meter
-former_analysis_of m k bs = decided (first_of (former_analysis_order k bs (stream_at m k))) (with_stream m k (analysed (stream_at m k) bs))
+former_analysis_of = analysis_by former_record_order
 
 -- it tried the numbers of a record upward between 13 and 14, and each with the condition that it has now
 abbrev pub FormerAnalysisNumbers : Type 0

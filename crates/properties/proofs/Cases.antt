@@ -13,7 +13,7 @@ use Rattle.records.specs.Cases.{same_outcome, up_from}
 use Rattle.properties.specs.Chain.{T, D, HmSuperior, HmInferior, M, S, S9, Z, Hs, Hi, rho, A, G, d, r, W}
 use Rattle.properties.specs.Quantities.{BoundsBelow}
 use Rattle.properties.specs.PerKilogram.{NoSmallerDistance}
-use Rattle.properties.specs.Cases.{K1, K2, GasesHold, LimitsRefused, PerKilogramGasesHold, half_gas}
+use Rattle.properties.specs.Cases.{K1, K2, GasesHold, HalfBelowZero, LimitsAnswered, PerKilogramGasesHold, half_gas}
 
 pub bounds_below : BoundsBelow
 bounds_below = refl
@@ -30,9 +30,13 @@ pub gases_hold : GasesHold
 unfolding near near_z floor root root_from component_table total fraction_for over_lines lines_of fractions_of entries_bytes line_breaks fraction_zero any_above same_outcome up_from T D HmSuperior HmInferior M S S9 Z Hs Hi rho A G d r W
 gases_hold = refl
 
-pub limits_refused : LimitsRefused
+pub half_below_zero_lem : HalfBelowZero
+unfolding near_z floor component_table fraction_for over_lines S S9
+half_below_zero_lem = (refl, refl)
+
+pub limits_answered : LimitsAnswered
 unfolding total fraction_for lines_of fractions_of entries_bytes line_breaks fraction_zero any_above same_outcome up_from
-limits_refused = refl
+limits_answered = refl
 
 pub per_kilogram_gases_hold : PerKilogramGasesHold
 unfolding near component_table total fraction_for over_lines lines_of fractions_of entries_bytes line_breaks fraction_zero any_above same_outcome up_from HmSuperior HmInferior M

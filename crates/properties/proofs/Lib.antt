@@ -8,3 +8,4 @@ pub mod Outcomes
 pub mod Summing
 mod Rounds
 mod LimitBeforeSum
+mod HydrogenClass

@@ -8,4 +8,5 @@ pub mod Accepted
 pub mod Rounds
 pub mod Answers
 pub mod LimitBeforeSum
+pub mod HydrogenClass
 pub mod Cases

@@ -72,10 +72,12 @@ outside ls xs e = go (in_class ls xs) (λ t. leb→le _ _ t)
     go true is = absurd (omega (arith, is tt, few))
     go false is = refl
 
+-- where no former condition of a record held, it is outside the class
+pub outside_of_clear : (bs : List ℕ) → first_of (former_record_order bs) ≡ 0 → record_in_class bs ≡ false
+outside_of_clear bs e = outside (lines_in bs) (fractions_in bs) (clear_second (head_order bs) (former_content_order (lines_in bs) (fractions_in bs)) tt e)
+
 pub always_refused : AlwaysRefused
-always_refused bs k e =
-    let d = decided_accepted (first_of (former_record_order bs)) (contents_in bs) k e in
-    outside (lines_in bs) (fractions_in bs) (clear_second (head_order bs) (former_content_order (lines_in bs) (fractions_in bs)) tt d.0)
+always_refused bs k e = outside_of_clear bs (decided_accepted (first_of (former_record_order bs)) (contents_in bs) k e).0
 
 pub always_refused_writing : AlwaysRefusedWriting
 always_refused_writing k old new e =

@@ -9,5 +9,6 @@ pub mod Exists
 pub mod LentRuns
 pub mod LentExists
 mod LimitBeforeSum
+mod HydrogenClass
 mod OtherStreams
 mod Cited

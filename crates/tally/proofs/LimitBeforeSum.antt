@@ -5,10 +5,11 @@ use Prim.Native.Nat.{ℕ}
 use Rattle.records.specs.Order.{first_of, Outcome, refused, accepted, decided, otherwise}
 use Rattle.records.specs.Format.{combustion_in, metering_in, lines_in, fractions_in}
 use Rattle.records.specs.Conditions.{head_order}
-use Rattle.records.specs.LimitBeforeSum.{renumbered}
+use Rattle.records.specs.LimitBeforeSum.{former_record_order, renumbered}
 use Rattle.records.proofs.LimitBeforeSum.{content_change, answer_change, same_conditions}
 use Rattle.tally.specs.Tally.{Ask, analysis, metering, totals, mean, Call, Answer, StreamTally, Tally, fresh_tally, tally_at, with_tally, above_last, other_pair, order_of, left_by, given_by, answer_to, tally_after, answers_to, tallied}
-use Rattle.tally.specs.LimitBeforeSum.{former_order_of, former_number_for, former_answer_to, former_tally_after, ask_limit_number, FormerAnalysisNumbers, FormerConditions, EveryListChange, RunChange, LentRunChange}
+use Rattle.tally.specs.ByOrder.{number_by, answer_by, tally_after_by}
+use Rattle.tally.specs.LimitBeforeSum.{former_order_of, ask_limit_number, FormerAnalysisNumbers, FormerConditions, EveryListChange, RunChange, LentRunChange}
 use Rattle.tally.proofs.Demand.{demand3}
 use Rattle.tally.proofs.LentRuns.{lent_demand3}
 
@@ -33,23 +34,23 @@ same_otherwise : {A : Type 0} (other : A) (limit : ℕ) (o : Outcome A) → othe
 same_otherwise other limit (refused n) = refl
 same_otherwise other limit (accepted a) = refl
 
-after_change : (t : Tally) (c : Call) → tally_after t c ≡ former_tally_after t c
+after_change : (t : Tally) (c : Call) → tally_after t c ≡ tally_after_by former_record_order t c
 after_change t c =
     let s = tally_at t c.stream in
     let left = with_tally t c.stream (left_by c.ask s) in
-    ap (otherwise t) (call_change c.stream c.ask s left) ∙ same_otherwise t (ask_limit_number c.ask) (decided (former_number_for t c) left)
+    ap (otherwise t) (call_change c.stream c.ask s left) ∙ same_otherwise t (ask_limit_number c.ask) (decided (number_by former_record_order t c) left)
 
 pub every_list_change : EveryListChange
 every_list_change t [] = record { answers = refl; after = refl }
 every_list_change t (c ∷ cs) =
     let s = tally_at t c.stream in
-    let u = former_tally_after t c in
+    let u = tally_after_by former_record_order t c in
     let rest = every_list_change u cs in
     record {
       answers =
           ap (λ (v : Tally). answer_to t c ∷ answers_to v cs) (after_change t c)
           ∙ ap (λ (r : Answer). r ∷ answers_to u cs) (call_change c.stream c.ask s (given_by c.ask s))
-          ∙ ap (λ (rs : List Answer). renumbered (ask_limit_number c.ask) (former_answer_to t c) ∷ rs) rest.answers;
+          ∙ ap (λ (rs : List Answer). renumbered (ask_limit_number c.ask) (answer_by former_record_order t c) ∷ rs) rest.answers;
       after = ap (λ (v : Tally). tallied v cs) (after_change t c) ∙ rest.after;
     }
 

@@ -1,13 +1,13 @@
 -- The cases K1 to K10 of document 01, K9 among calls on other streams, a computed one of the inferior energy and the mass, day files, and
--- the records of `limit_cases` as analyses, as one list, and one test over the definitions that computes to true over the whole list. Values
--- per kilogram stand in crates/properties/specs/Cases.antt.
+-- the records of `limit_cases` and `class_cases` as analyses, and a stream that takes gases of both classes, as one list, and one test over
+-- the definitions that computes to true over the whole list. Values per kilogram stand in crates/properties/specs/Cases.antt.
 use Rattle.std.specs.Prelude.{◌≡◌, Bool, true, false, ◌&&◌, List, [], ◌∷◌, map, length, take, ℕ, ◌*◌, ◌-◌, eqb, leb, ℤ, pos, nat_abs, ◌-ℤ◌}
 use Rattle.components.specs.Table.{entry_of}
 use Rattle.components.specs.Table as table
 use Rattle.components.specs.Rule.{atoms_of, water_heat, allowance, excess}
 use Rattle.components.specs.Tests.{all}
 use Rattle.records.specs.Order.{refused, accepted, decided, mapped}
-use Rattle.records.specs.Format.{bytes_of}
+use Rattle.records.specs.Format.{contents, bytes_of}
 use Rattle.records.specs.Cases.{same_list, same_outcome, annex_d, k2}
 use Rattle.records.specs.Cases as on-record
 use Rattle.day_file.specs.Format.{file_of}
@@ -71,6 +71,16 @@ after2000 =
       mass = record { whole = 1; rest = 35970764000 };
     }
 
+-- after 1,000 dm³ of methane and 1,000 dm³ of hydrogen
+abbrev pub mixed : Totals
+mixed =
+    record {
+      volume = 2000;
+      superior = record { whole = 49; rest = 883837000 };
+      inferior = record { whole = 44; rest = 238705000 };
+      mass = record { whole = 0; rest = 76511283000 };
+    }
+
 -- K9, and the same among calls on the stream 1, which takes the gas of annex D, and on the stream 16
 abbrev pub k9 : List (Call × Answer)
 k9 =
@@ -94,6 +104,20 @@ shared =
     ∷ (on 16 totals, refused 13)
     ∷ (on 1 (mean superior), accepted (mean_is 38959473))
     ∷ (on 0 (mean superior), accepted (mean_is 37781616))
+    ∷ []
+
+-- hydrogen, of which Hs, Hi and rho are 12,102,221, 10,223,131 and 8,525,901, after methane on a stream, and methane again
+abbrev pub both_classes : List (Call × Answer)
+both_classes =
+    (on 0 (analysis k2), accepted done)
+    ∷ (on 0 (metering 1000), accepted done)
+    ∷ (on 0 (analysis (bytes_of (contents 15 15 (41 ∷ []) (1000000 ∷ [])))), accepted done)
+    ∷ (on 0 (metering 1000), accepted done)
+    ∷ (on 0 totals, accepted (totals_are mixed))
+    ∷ (on 0 (mean superior), accepted (mean_is 24941919))
+    ∷ (on 0 (mean inferior), accepted (mean_is 22119353))
+    ∷ (on 0 (analysis (bytes_of (contents 15 15 (1 ∷ 41 ∷ 52 ∷ []) (50000 ∷ 899999 ∷ 50001 ∷ [])))), refused 10)
+    ∷ (on 0 (analysis k2), accepted done)
     ∷ []
 
 -- a day file with K2, an empty block, whose record is refused by 1, and K2 again
@@ -146,8 +170,10 @@ cases =
     ∷ [])  -- computed: K2's inferior energy, its mean and the mass, with 18 before the volume and 13 past the last stream
     ∷ listed day_list
     ∷ each_analysis on-record.limit_cases  -- 10, 11 and 12 before 9, and 9 alone
-    (rule (record { line = 23; place = 0; superior = 2700200; inferior = 2524100; twice = 352200; atoms = 8; water = 44016; product = 352128 })  -- K10
-    ∷ []))
+    (each_analysis on-record.class_cases  -- the hydrogen class
+    (calls both_classes
+    ∷ rule (record { line = 23; place = 0; superior = 2700200; inferior = 2524100; twice = 352200; atoms = 8; water = 44016; product = 352128 })  -- K10
+    ∷ [])))
 
 -- the same answer: the number of a refusal, or the figures that are given
 abbrev pub figures_of : Given → List ℕ

@@ -2,6 +2,8 @@ pub mod Tally
 pub mod Run
 pub mod Demand
 pub mod LentRun
+pub mod ByOrder
 pub mod LimitBeforeSum
+pub mod HydrogenClass
 pub mod OtherStreams
 pub mod Cases

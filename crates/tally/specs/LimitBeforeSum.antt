@@ -3,20 +3,20 @@
 use Rattle.std.specs.Prelude.{◌≡◌, List, [], ◌∷◌, ◌++◌, ℕ}
 use contract.Lifetimes.{Lfts}
 use Rattle.std.specs.Borrow.{MutBor}
-use Rattle.records.specs.Order.{Order, first_of, numbers_of, condition_of, decided, otherwise}
-use Rattle.records.specs.Format.{combustion_in, metering_in}
+use Rattle.records.specs.Order.{Order, numbers_of, condition_of}
 use Rattle.records.specs.LimitBeforeSum.{former_record_order, former_record_numbers, record_limit_number, renumbered}
-use Rattle.tally.specs.Tally.{Ask, analysis, metering, totals, mean, Call, Answer, StreamTally, Tally, fresh_tally, tally_at, with_tally, above_last, other_pair, order_of, left_by, given_by, answers_to, tallied}
+use Rattle.tally.specs.Tally.{Ask, analysis, metering, totals, mean, Call, Answer, StreamTally, Tally, fresh_tally, order_of, answers_to, tallied}
+use Rattle.tally.specs.ByOrder.{order_by, answers_by, tallied_by}
 use Rattle.meter.specs.declared.Meter.{Meter}
 use Rattle.tally.specs.Run.{FreshReturns, Run}
 use Rattle.tally.specs.LentRun.{Words, FreshGave, LentRun}
 
--- the former order of a call: another for an analysis, and the same for every other call
+-- the former order of a call, and what a list of calls was answered by it
 abbrev pub former_order_of : ℕ → Ask → StreamTally → Order
-former_order_of k (analysis bs) s = (13, above_last k) ∷ former_record_order bs ++ ((14, other_pair s.pair (combustion_in bs) (metering_in bs)) ∷ [])
-former_order_of k (metering v) s = order_of k (metering v) s
-former_order_of k totals s = order_of k totals s
-former_order_of k (mean e) s = order_of k (mean e) s
+former_order_of = order_by former_record_order
+
+abbrev pub former_answers_to : Tally → List Call → List Answer
+former_answers_to = answers_by former_record_order
 
 -- it tried the numbers of a record upward between 13 and 14, and each with the condition that it has now
 abbrev pub FormerAnalysisNumbers : Type 0
@@ -25,24 +25,6 @@ FormerAnalysisNumbers =
 
 abbrev pub FormerConditions : Type 0
 FormerConditions = (k : ℕ) (ask : Ask) (s : StreamTally) (n : ℕ) → condition_of n (former_order_of k ask s) ≡ condition_of n (order_of k ask s)
-
--- one call, and a list of calls, by it
-abbrev pub former_number_for : Tally → Call → ℕ
-former_number_for t c = first_of (former_order_of c.stream c.ask (tally_at t c.stream))
-
-abbrev pub former_answer_to : Tally → Call → Answer
-former_answer_to t c = decided (former_number_for t c) (given_by c.ask (tally_at t c.stream))
-
-abbrev pub former_tally_after : Tally → Call → Tally
-former_tally_after t c = otherwise t (decided (former_number_for t c) (with_tally t c.stream (left_by c.ask (tally_at t c.stream))))
-
-abbrev pub former_answers_to : Tally → List Call → List Answer
-former_answers_to t [] = []
-former_answers_to t (c ∷ cs) = former_answer_to t c ∷ former_answers_to (former_tally_after t c) cs
-
-abbrev pub former_tallied : Tally → List Call → Tally
-former_tallied t [] = t
-former_tallied t (c ∷ cs) = former_tallied (former_tally_after t c) cs
 
 -- the first of 10, 11 and 12 that holds of the record of an analysis, 0 where none does, and for any other call
 abbrev pub ask_limit_number : Ask → ℕ
@@ -60,7 +42,7 @@ each_renumbered (c ∷ cs) (r ∷ rs) = renumbered (ask_limit_number c.ask) r �
 -- from any tally, a list of calls gets its former answers so changed, and leaves the tally that it left
 pub record ListChange (t : Tally) (cs : List Call) : Type 0 where
   pub answers : answers_to t cs ≡ each_renumbered cs (former_answers_to t cs)
-  pub after : tallied t cs ≡ former_tallied t cs
+  pub after : tallied t cs ≡ tallied_by former_record_order t cs
 
 abbrev pub EveryListChange : Type 0
 EveryListChange = (t : Tally) (cs : List Call) → ListChange t cs
