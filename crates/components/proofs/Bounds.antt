@@ -35,7 +35,7 @@ own : (line low high mass factor : ℕ) → T (every (between line low high) 12)
 unfolding between small
 own line low high mass factor h m s =
     let heats : (c : ℕ) → Heat c → T (leb low (nat_abs (entry_of line c)) && leb (nat_abs (entry_of line c)) high) =
-        λ c i. unless (ltb c 4) _ (le-ltb c 4 i.0) (at (between line low high) 12 h c i.1) in
+    λ c i. unless (ltb c 4) _ (le-ltb c 4 i.0) (at (between line low high) 12 h c i.1) in
     record {
       heat = λ c i. (leb→le _ _ (and_l _ _ (heats c i)), leb→le _ _ (and_r _ _ (heats c i)));
       mass_is = m;

@@ -126,8 +126,8 @@ module _ (ideal Z : ℕ) (low : compression_low ≤ Z) where
 pub real_by_real : (I G Z : ℕ) → compression_low ≤ Z → I ≤ 2 * G → real I Z ≤ 2 * real G Z + 1
 real_by_real I G Z low h =
     let twice : 2 * real I Z ≤ 4 * real G Z + 3 =
-        le_of_mul-le-mul_right {m = 2 * real I Z} {n = 4 * real G Z + 3} {k = Z}
-        (omega (arith, (real_near I Z low).below, (real_near G Z low).above)) (omega arith) in
+    le_of_mul-le-mul_right {m = 2 * real I Z} {n = 4 * real G Z + 3} {k = Z}
+    (omega (arith, (real_near I Z low).below, (real_near G Z low).above)) (omega arith) in
     omega arith
 
 fifth : (Hs d r W : ℕ) → 2 * (W * r) ≤ 2 * (Hs * 10 ^ 9) + r → Hs ≤ 2 * d + 1 → d * 10 ^ 10 < (r + 1) * (r + 1) → root_low ≤ r → 5 * W * r ≤ (r + 30) * r

@@ -27,8 +27,10 @@ same_limit l =
     go true false true a b = absurd (b tt tt)
     go true false false a b = refl
     go false n e a b = refl
+
     apart : T (eqb l water) → T (eqb l nitrogen) → ⊥
     apart w n = omega (arith, eqb→eq l water w, eqb→eq l nitrogen n)
+
     apart_two : T (eqb l water) → T (eqb l ethane || eqb l carbon_dioxide) → ⊥
     apart_two w e = rw (eqb→eq l water w) at e
 
@@ -68,6 +70,7 @@ outside ls xs e = go (in_class ls xs) (λ t. leb→le _ _ t)
   where
     few : fraction_for hydrogen ls xs ≤ 50000
     few = hydrogen_few ls xs (unmet (former_content_order ls xs) tt e 11)
+
     go : (class : Bool) → (T class → least_hydrogen ≤ fraction_for hydrogen ls xs) → class ≡ false
     go true is = absurd (omega (arith, is tt, few))
     go false is = refl

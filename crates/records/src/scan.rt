@@ -69,7 +69,11 @@ impl Scan {
         if !class && self.methane < LEAST_METHANE {
             return Err(Refusal::MethaneLow);
         }
-        if if class { self.above_inside } else { self.above_outside } {
+        if if class {
+            self.above_inside
+        } else {
+            self.above_outside
+        } {
             return Err(Refusal::AboveLimit);
         }
         if conditions::limit_of(class, conditions::WATER) < self.water {

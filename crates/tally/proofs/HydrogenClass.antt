@@ -7,8 +7,8 @@ use Rattle.records.specs.Order.{Order, first_of, decided, otherwise}
 use Rattle.records.specs.Format.{combustion_in, metering_in}
 use Rattle.records.specs.HydrogenClass.{former_record_order}
 use Rattle.records.proofs.HydrogenClass.{same_record_order}
-use Rattle.tally.specs.Tally.{Ask, analysis, metering, totals, mean, Call, Answer, StreamTally, Tally, fresh_tally, tally_at, with_tally, above_last, other_pair, order_of, left_by, given_by, answers_to, tallied}
-use Rattle.tally.specs.ByOrder.{order_by, answer_by, tally_after_by, answers_by, tallied_by}
+use Rattle.tally.specs.Tally.{Ask, analysis, metering, totals, mean, Answer, StreamTally, Tally, fresh_tally, tally_at, with_tally, above_last, other_pair, order_of, left_by, given_by, answers_to, tallied}
+use Rattle.tally.specs.ByOrder.{order_by, answer_by, tally_after_by}
 use Rattle.tally.specs.HydrogenClass.{ask_in_class, EveryListStays, RunStays, LentRunStays}
 use Rattle.tally.proofs.Demand.{demand3}
 use Rattle.tally.proofs.LentRuns.{lent_demand3}

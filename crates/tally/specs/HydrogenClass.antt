@@ -1,6 +1,6 @@
 -- Every list of calls, compared with its answers by conditions that had no hydrogen class (crates/records/specs/HydrogenClass.antt): where
 -- the record of no analysis has 900,000 of hydrogen or more, every answer is the same, and so is the tally after the list.
-use Rattle.std.specs.Prelude.{◌≡◌, Bool, false, List, [], ◌∷◌, ℕ}
+use Rattle.std.specs.Prelude.{◌≡◌, Bool, false, List, [], ◌∷◌}
 use contract.Lifetimes.{Lfts}
 use Rattle.std.specs.Borrow.{MutBor}
 use Rattle.records.specs.HydrogenClass.{former_record_order, record_in_class}
