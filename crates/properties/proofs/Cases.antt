@@ -1,6 +1,7 @@
 -- The cases hold of the definitions, by computation.
 use mathlib.Core.Path.{◌≡◌, refl}
 use native.Mathlib.Omega.{arith}
+use lib.Dec.{le→leb}
 use Rattle.rounding.specs.Near.{near, near_z, floor}
 use Rattle.rounding.specs.Root.{root, root_from}
 use Rattle.components.specs.Table.{component_table}
@@ -13,7 +14,7 @@ use Rattle.records.specs.Cases.{same_outcome, up_from}
 use Rattle.properties.specs.Chain.{T, D, HmSuperior, HmInferior, M, S, S9, Z, Hs, Hi, rho, A, G, d, r, W}
 use Rattle.properties.specs.Quantities.{BoundsBelow}
 use Rattle.properties.specs.PerKilogram.{NoSmallerDistance}
-use Rattle.properties.specs.Cases.{K1, K2, GasesHold, HalfBelowZero, LimitsAnswered, PerKilogramGasesHold, half_gas}
+use Rattle.properties.specs.Cases.{K1, K2, GasesHold, HalfBelowZero, NotWithinSeven, LimitsAnswered, PerKilogramGasesHold, half_gas}
 
 pub bounds_below : BoundsBelow
 bounds_below = refl
@@ -33,6 +34,10 @@ gases_hold = refl
 pub half_below_zero_lem : HalfBelowZero
 unfolding near_z floor component_table fraction_for over_lines S S9
 half_below_zero_lem = (refl, refl)
+
+pub not_within_seven : NotWithinSeven
+unfolding near near_z floor root root_from component_table fraction_for over_lines T D HmSuperior M S S9 Z Hs A G d r W
+not_within_seven w = le→leb _ _ w.under
 
 pub limits_answered : LimitsAnswered
 unfolding total fraction_for lines_of fractions_of entries_bytes line_breaks fraction_zero any_above same_outcome up_from

@@ -5,7 +5,9 @@ use Rattle.records.specs.Order.{accepted, decided, mapped}
 use Rattle.records.specs.Format.{Contents, contents, bytes_of}
 use Rattle.records.specs.Cases.{same_outcome, annex_d, k2, full_gas, full_class_gas, up_from, limit_cases, class_cases}
 use Rattle.records.specs.Cases as on-record
-use Rattle.properties.specs.Chain.{S, S9, Six, properties_of}
+use Rattle.properties.specs.Chain.{S, S9, W, Six, properties_of}
+use Rattle.properties.specs.Unrounded as unrounded
+use Rattle.properties.specs.Distances.{Indexed}
 use Rattle.properties.specs.PerKilogram.{MassBasis, per_kilogram_of}
 
 abbrev pub six : ℕ → ℕ → ℕ → ℕ → ℕ → ℕ → Six
@@ -143,6 +145,13 @@ PerKilogramGasesHold = all (λ (c : Contents × MassBasis). same_outcome same_pe
 -- S9 of that gas, S being -47,845,065
 abbrev pub HalfBelowZero : Type 0
 HalfBelowZero = (S (half_below_zero 15 15) ≡ neg_ℤ (pos 47845065)) × (S9 (half_below_zero 15 15) ≡ neg_ℤ (pos 4784506))
+
+-- a gas of the hydrogen class whose W is 7.39 J/m³ from the formula: 7 would not do for the distance of its class
+abbrev far_index : Contents
+far_index = contents 0 0 (20 ∷ 41 ∷ []) (1155 ∷ 998945 ∷ [])
+
+abbrev pub NotWithinSeven : Type 0
+NotWithinSeven = Indexed 7 (W far_index) (unrounded.Hs far_index) (unrounded.d far_index) → ⊥
 
 -- the properties and the values per kilogram of each of `limit_cases` and `class_cases` that is refused are refused by its number, and the
 -- others are answered

@@ -61,6 +61,17 @@ impl Scan {
         LEAST_HYDROGEN <= self.hydrogen
     }
 
+    // A line other than water is above its limit, outside the class or in it.
+    fn above(self, class: bool) -> bool
+        ensures { result ≡ cond class self.above_inside self.above_outside }
+    {
+        if class {
+            self.above_inside
+        } else {
+            self.above_outside
+        }
+    }
+
     // 10 to 12 and 9, after the last entry.
     fn check(self) -> Result<(), Refusal>
         ensures { number_in result ≡ first_of (limits_order (sum_outside self.sum) (methane_low (hydrogen_class self.hydrogen) self.methane) (cond (hydrogen_class self.hydrogen) self.above_inside self.above_outside) (water_high (hydrogen_class self.hydrogen) self.water)) }
@@ -69,11 +80,7 @@ impl Scan {
         if !class && self.methane < LEAST_METHANE {
             return Err(Refusal::MethaneLow);
         }
-        if if class {
-            self.above_inside
-        } else {
-            self.above_outside
-        } {
+        if self.above(class) {
             return Err(Refusal::AboveLimit);
         }
         if conditions::limit_of(class, conditions::WATER) < self.water {
