@@ -1,5 +1,6 @@
 /* Times the functions of two builds of the library, in one process and in turn, on records that are accepted and refused; prints the
- * median time of each and the median of the ratios. bin/compare links it: the functions of the other build begin with before_. */
+ * median time of each and the median of the ratios. A record of the hydrogen class, which an older build refuses, is not timed against such
+ * a build. bin/compare links it: the functions of the other build begin with before_. */
 #define _GNU_SOURCE
 #include <stdio.h>
 #include <stdlib.h>
@@ -148,7 +149,7 @@ int main(void)
     compare_calls("20 lines");
     many_lines(55, METHANE);
     compare_calls("55 lines");
-    one_line(HYDROGEN); /* a build that refuses the hydrogen class is not compared on it */
+    one_line(HYDROGEN);
     compare_calls("hydrogen alone");
     many_lines(55, HYDROGEN);
     compare_calls("hydrogen, 55 lines");
