@@ -1,5 +1,6 @@
 /* Times the functions of two builds of the library, in one process and in turn, on records that are accepted and refused; prints the
- * median time of each and the median of the ratios. bin/compare links it: the functions of the other build begin with before_. */
+ * median time of each and the median of the ratios. A record of the hydrogen class, which an older build refuses, is not timed against such
+ * a build. bin/compare links it: the functions of the other build begin with before_. */
 #define _GNU_SOURCE
 #include <stdio.h>
 #include <stdlib.h>
@@ -115,15 +116,25 @@ static void annex_d(void)
     make_record();
 }
 
-/* methane, and 500 ppm of each of the lines 2 to n, with water at 200 */
-static void many_lines(size_t n)
+enum { METHANE = 1, HYDROGEN = 41 };
+
+/* the lines 1 to n, 500 ppm of each, with water at 200, and of one what is left */
+static void many_lines(size_t n, size_t most)
 {
     count = n;
     for (size_t i = 0; i < n; i++) {
         lines[i] = (uint8_t)(i + 1);
         fractions[i] = i == 41 ? 200 : 500;
     }
-    fractions[0] = 1000000 - 500 * (uint32_t)(n - 1) + (n > 41 ? 300 : 0);
+    fractions[most - 1] = 1000000 - 500 * (uint32_t)(n - 1) + (n > 41 ? 300 : 0);
+    make_record();
+}
+
+static void one_line(uint8_t line)
+{
+    count = 1;
+    lines[0] = line;
+    fractions[0] = 1000000;
     make_record();
 }
 
@@ -132,12 +143,16 @@ int main(void)
     printf("%-24s %-16s %4s %8s %8s %7s   10th to 90th\n", "record", "call", "no", "before", "now ns", "ratio");
     annex_d();
     compare_calls("K1, 8 lines");
-    many_lines(1);
+    one_line(METHANE);
     compare_calls("methane alone");
-    many_lines(20);
+    many_lines(20, METHANE);
     compare_calls("20 lines");
-    many_lines(55);
+    many_lines(55, METHANE);
     compare_calls("55 lines");
+    one_line(HYDROGEN);
+    compare_calls("hydrogen alone");
+    many_lines(55, HYDROGEN);
+    compare_calls("hydrogen, 55 lines");
     annex_d();
     record[0] = 'g';
     compare_readers("mark differs"); /* the writer takes no mark */

@@ -1,6 +1,6 @@
-/* Prints how much stack each function takes, on a record of 55 entries and on a day file of 1,440 of them, and fails where one takes more
- * than the header says. A call runs on a stack of its own that was filled with a byte before; what is not that byte any more was taken, and
- * so are the BELOW bytes below it. */
+/* Prints how much stack each function takes at most, on records of 55 entries, one of natural gas and one of the hydrogen class, and on a
+ * day file of 1,440 of them, and fails where one takes more than the header says. A call runs on a stack of its own that was filled with a
+ * byte before; what is not that byte any more was taken, and so are the BELOW bytes below it. */
 #define _GNU_SOURCE
 #include <stdio.h>
 #include <stdlib.h>
@@ -104,11 +104,27 @@ static void day_block(void)
     number = !loonstool_day_block(day, DAY_BYTES, DAY_BYTES - BLOCK_BYTES, &block);
 }
 
-/* The day file of the record that was written, with a volume for each block. */
+/* The gases, by the line that each has most of: methane, hydrogen. */
+enum { GASES = 2 };
+
+static const size_t most_of[GASES] = {1, 41};
+
+/* The record of a gas of every line. */
+static void make_record(size_t gas)
+{
+    for (size_t i = 0; i < LOONSTOOL_LINES; i++) {
+        lines[i] = (uint8_t)(i + 1);
+        fractions[i] = i + 1 == most_of[gas] ? 1000000 - 54 * 200 : 200;
+    }
+    write_record();
+}
+
+/* The day file of the gases' records by turns, with a volume for each block. */
 static void make_day(void)
 {
     for (size_t i = 0; i < BLOCKS; i++) {
         uint8_t *place = day + LOONSTOOL_FIRST_BLOCK + i * BLOCK_BYTES;
+        make_record(i % GASES);
         place[0] = BYTES & 0xff;
         place[1] = BYTES >> 8;
         memcpy(place + 2, bytes, BYTES);
@@ -143,21 +159,24 @@ static size_t taken_by(void (*function)(void))
 
 static int above(const char *name, void (*function)(void), size_t most)
 {
-    size_t taken = taken_by(function) - taken_by(nothing) + BELOW;
+    size_t taken = 0;
+    bool refused = false;
+    for (size_t gas = 0; gas < GASES; gas++) {
+        make_record(gas);
+        size_t of_gas = taken_by(function) - taken_by(nothing) + BELOW;
+        taken = of_gas > taken ? of_gas : taken;
+        if (number != LOONSTOOL_ACCEPTED)
+            fprintf(stderr, "stack: %s gave %d\n", name, number);
+        refused |= number != LOONSTOOL_ACCEPTED;
+    }
     printf("%s: %zu bytes, %d below the stack pointer among them, at most %zu\n", name, taken, BELOW, most);
     if (taken > most)
         fprintf(stderr, "stack: %s takes more than the header says\n", name);
-    if (number != LOONSTOOL_ACCEPTED)
-        fprintf(stderr, "stack: %s gave %d\n", name, number);
-    return taken > most || number != LOONSTOOL_ACCEPTED;
+    return taken > most || refused;
 }
 
 int main(void)
 {
-    for (uint8_t i = 0; i < LOONSTOOL_LINES; i++) {
-        lines[i] = (uint8_t)(i + 1);
-        fractions[i] = i == 0 ? 1000000 - 54 * 200 : 200;
-    }
     int wrong = above("loonstool_write", write_record, LOONSTOOL_STACK_WRITE);
     wrong |= above("loonstool_read", read_record, LOONSTOOL_STACK_READ);
     wrong |= above("loonstool_properties_of", properties_of, LOONSTOOL_STACK_PROPERTIES_OF);

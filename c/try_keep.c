@@ -82,13 +82,13 @@ struct call {
 
 static const struct call fresh = {.kind = FRESH}, mend = {.kind = MEND};
 
-/* Methane alone, some ppm off the whole: most records are accepted, some are refused by 1, 4, 9 and 14. */
+/* Methane alone, or in one of four hydrogen, some ppm off the whole: most records are accepted, some are refused by 1, 4, 9 and 14. */
 static void draw_record(struct call *call)
 {
     static const uint8_t pairs[8][2] = {{15, 15}, {15, 15}, {15, 15}, {15, 15}, {15, 15}, {25, 20}, {0, 0}, {25, 15}};
     const uint8_t *pair = pairs[drawn_below(8)];
     uint32_t fraction = (uint32_t)(999890 + drawn_below(221));
-    const uint8_t head[] = {'G', 'C', 'R', 1, 0, pair[0], pair[1], 1, 1};
+    const uint8_t head[] = {'G', 'C', 'R', 1, 0, pair[0], pair[1], 1, fraction % 4 == 0 ? 41 : 1};
     memcpy(call->record, head, sizeof head);
     memcpy(call->record + sizeof head, &fraction, sizeof fraction); /* x86-64 has the least significant byte first too */
     call->length = drawn_below(10) == 0 ? 7 : sizeof call->record;

@@ -1,8 +1,9 @@
 /* Tries the library on bad input: null-length lists and buffers, unaligned bytes, records, day files and buffers a byte short and shorter,
  * streams, volumes and offsets far above their limits, and each number of a record, of the meter's calls and of a day file, after which all
- * that was lent is as it was; then loonstool_meter_check on every kind of damaged words. What is lent, to be read or to be filled, ends
- * where a page begins that may not be touched (but for the tests of unaligned bytes, which move it by a byte at a time), so that a read or
- * a write past it ends the program. So does a write to a meter during a call that only reads it. */
+ * that was lent is as it was; then loonstool_meter_check on every kind of damaged words. Between these, gases at the limits of both classes
+ * of records, and hydrogen, are answered as they must be. What is lent, to be read or to be filled, ends where a page begins that may not
+ * be touched (but for the tests of unaligned bytes, which move it by a byte at a time), so that a read or a write past it ends the program.
+ * So does a write to a meter during a call that only reads it. */
 #define _DEFAULT_SOURCE
 #include <stdio.h>
 #include <stdlib.h>
@@ -22,6 +23,9 @@ __extension__ typedef unsigned __int128 wide;
 
 enum { K1_BYTES = LOONSTOOL_RECORD_BYTES(8), K2_BYTES = LOONSTOOL_RECORD_BYTES(1), ROOM = 300, DRAWS = 20000 };
 
+/* Lines of the component table. */
+enum { HYDROGEN = 41, WATER = 42 };
+
 /* The words of a stream. */
 enum {
     ANALYSED, COMBUSTION, METERING, Z, HS, HI, RHO, D, W,
@@ -35,7 +39,7 @@ _Static_assert(WORDS == LOONSTOOL_STREAM_WORDS, "each word of a stream has a nam
 static const uint64_t highest[WORDS] = {
     1, 25, 20, 1000000000, 250000000, 250000000, 510000000, 390000000, 470000000,
     999999999999, 249999999999, 999999999, 249999999999, 999999999, 5099999999, 99999999999};
-static const uint64_t lowest[WORDS] = {1, 0, 0, 724000000, 16680000, 16680000, 33000000, 27590000, 3880000, 0, 0, 0, 0, 0, 0, 0};
+static const uint64_t lowest[WORDS] = {1, 0, 0, 724000000, 9030000, 9030000, 7540000, 6250000, 3880000, 0, 0, 0, 0, 0, 0, 0};
 
 /* A register of a stream: the word with its wholes, after which that with its rest stands; the parts of the rest that make a whole, mJ or
  * 10^-11 kg; and the word with the property that a volume is multiplied by. */
@@ -56,7 +60,17 @@ static const uint64_t of_methane[REGISTERS] = {37781616, 34015574, 67985382};
 /* Both means, superior and inferior. */
 static __typeof__(loonstool_meter_mean) *const means[2] = {loonstool_meter_mean, loonstool_meter_mean_inferior};
 
-static const uint8_t pairs[6][2] = {{15, 15}, {0, 0}, {15, 0}, {25, 0}, {20, 20}, {25, 20}};
+enum { PAIRS = 6 };
+
+static const uint8_t pairs[PAIRS][2] = {{15, 15}, {0, 0}, {15, 0}, {25, 0}, {20, 20}, {25, 20}};
+
+/* Z, Hs, Hi, rho, d and W of hydrogen at each pair, and its values per kilogram. */
+static const uint64_t of_hydrogen[PAIRS][6] = {
+    {999976960, 12102221, 10223131, 8525901, 6957592, 45881288}, {999984000, 12788139, 10777318, 8994037, 6956360, 48485996},
+    {999984000, 12766723, 10784457, 8994037, 6956360, 48404798}, {999984000, 12752446, 10788473, 8994037, 6956360, 48350667},
+    {999973990, 11889188, 10050456, 8380508, 6957961, 45072454}, {999973990, 11882536, 10052535, 8380508, 6957961, 45047236}};
+static const uint64_t hydrogen_per_kilogram[PAIRS][2] = {
+    {14194653, 11990674}, {14218463, 11982737}, {14194653, 11990674}, {14178779, 11995139}, {14186716, 11992658}, {14178779, 11995139}};
 
 /* A day file of three blocks: K2, no bytes, and three bytes. Where they begin and how long they are; and the longest block. */
 enum { BLOCKS = 3, K2_AT = 7, DAY_BYTES = K2_AT + K2_BYTES + 2 + 2 + 3, LONGEST = 65535, NO_BLOCK = LONGEST + 1 };
@@ -85,9 +99,9 @@ static struct loonstool_counts *counts;
 static size_t *next;
 static struct loonstool_block *block;
 
-/* The two entries of a gas, lent to the writer. */
-static uint8_t *two_lines;
-static uint32_t *two_fractions;
+/* The ends of the pages of a gas's entries, lent to the writer. */
+static uint8_t *lines_end;
+static uint32_t *fractions_end;
 
 /* The meter as the last accepted call left it. */
 static struct loonstool_meter saved;
@@ -197,6 +211,17 @@ static void expect_refused(const uint8_t *bytes, size_t length, uint8_t number, 
         expect_left(loonstool_meter_analysis(meter, stream, bytes, length), number, what, stream);
 }
 
+/* A record is read: its pair, its entries, and 0 past them. */
+static void expect_read(const uint8_t *bytes, const uint8_t pair[2], size_t n, const uint8_t *lines, const uint32_t *fractions,
+                        const char *what, size_t at)
+{
+    expect(read_record(bytes, LOONSTOOL_RECORD_BYTES(n)) == LOONSTOOL_ACCEPTED, what, at);
+    expect(*combustion == pair[0] && *metering == pair[1] && *count == n, what, at);
+    expect(memcmp(read_lines, lines, n) == 0 && memcmp(read_fractions, fractions, n * 4) == 0, what, at);
+    expect(all_are(read_lines + n, LOONSTOOL_LINES - n, 0), "0 past the entries", at);
+    expect(all_are((uint8_t *)(read_fractions + n), (LOONSTOOL_LINES - n) * 4, 0), "0 past the entries", at);
+}
+
 /* The record of K1 is accepted where it stands. */
 static void expect_k1(const uint8_t *bytes, const char *what, size_t at)
 {
@@ -205,11 +230,7 @@ static void expect_k1(const uint8_t *bytes, const char *what, size_t at)
     expect(memcmp(properties, &k1, sizeof k1) == 0, what, at);
     expect(loonstool_per_kilogram(bytes, K1_BYTES, per_kilogram) == LOONSTOOL_ACCEPTED, what, at);
     expect(memcmp(per_kilogram, &k1_per_kilogram, sizeof k1_per_kilogram) == 0, what, at);
-    expect(read_record(bytes, K1_BYTES) == LOONSTOOL_ACCEPTED, what, at);
-    expect(*combustion == 15 && *metering == 15 && *count == 8, what, at);
-    expect(memcmp(read_lines, lines, 8) == 0 && memcmp(read_fractions, fractions, 8 * 4) == 0, what, at);
-    expect(all_are(read_lines + 8, LOONSTOOL_LINES - 8, 0), "0 past the entries", at);
-    expect(all_are((uint8_t *)(read_fractions + 8), (LOONSTOOL_LINES - 8) * 4, 0), "0 past the entries", at);
+    expect_read(bytes, pairs[0], 8, lines, fractions, what, at);
 }
 
 /* The writer gives a number for a buffer of `length` bytes, and every byte that it does not fill is as it was. */
@@ -273,71 +294,164 @@ static void put_fraction(uint8_t *at, uint32_t fraction)
         at[i] = (uint8_t)(fraction >> 8 * i);
 }
 
-/* A record of methane and another line at 15/15: `length` bytes of it, with the byte at `at` set. */
+enum { MOST_ENTRIES = 3 };
+
+/* The entries of a gas, and the number that they get at 15/15. */
 struct gas {
-    uint8_t number, length, at, byte, line;
-    uint32_t methane, other;
+    uint8_t number, count, lines[MOST_ENTRIES];
+    uint32_t fractions[MOST_ENTRIES];
 };
+
+static const struct gas methane = {LOONSTOOL_ACCEPTED, 1, {1}, {1000000}}, hydrogen = {LOONSTOOL_ACCEPTED, 1, {HYDROGEN}, {1000000}};
 
 static const struct gas gases[] = {
-    {LOONSTOOL_RECORD_SHORT, 7, 0, 'G', 2, 950000, 50000},
-    {LOONSTOOL_MARK_DIFFERS, 18, 1, 'G', 2, 950000, 50000},
-    {LOONSTOOL_VERSION_DIFFERS, 18, 3, 2, 2, 950000, 50000},
-    {LOONSTOOL_PAIR_NOT_PERMITTED, 18, 6, 20, 2, 950000, 50000},
-    {LOONSTOOL_COUNT_OUTSIDE, 18, 7, 0, 2, 950000, 50000},
-    {LOONSTOOL_LENGTH_DIFFERS, 17, 7, 2, 2, 950000, 50000},
-    {LOONSTOOL_LINE_OUTSIDE, 18, 7, 2, 56, 950000, 50000},
-    {LOONSTOOL_FRACTION_ZERO, 18, 7, 2, 2, 1000000, 0},
-    {LOONSTOOL_SUM_OUTSIDE, 18, 7, 2, 2, 950101, 50000},
-    {LOONSTOOL_METHANE_LOW, 18, 7, 2, 52, 499999, 500001},
-    {LOONSTOOL_FRACTION_ABOVE, 18, 7, 2, 3, 949999, 50001},
-    {LOONSTOOL_WATER_HIGH, 18, 7, 2, 42, 999799, 201},
+    {LOONSTOOL_LINE_OUTSIDE, 2, {1, 56}, {950000, 50000}},
+    {LOONSTOOL_FRACTION_ZERO, 2, {1, 2}, {1000000, 0}},
+    {LOONSTOOL_SUM_OUTSIDE, 2, {1, 2}, {950101, 50000}},
+    {LOONSTOOL_METHANE_LOW, 2, {1, 52}, {499999, 500001}},
+    {LOONSTOOL_FRACTION_ABOVE, 2, {1, 3}, {949999, 50001}},
+    {LOONSTOOL_WATER_HIGH, 2, {1, WATER}, {999799, 201}},
+    /* the sum is outside its range too */
+    {LOONSTOOL_METHANE_LOW, 2, {1, 52}, {499999, 500}},
+    {LOONSTOOL_FRACTION_ABOVE, 2, {1, 52}, {924700, 400000}},
+    {LOONSTOOL_WATER_HIGH, 2, {1, WATER}, {999900, 201}},
+    {LOONSTOOL_FRACTION_ABOVE, 2, {1, HYDROGEN}, {500000, 900000}},
+    {LOONSTOOL_WATER_HIGH, 2, {HYDROGEN, WATER}, {999900, 201}},
+    /* at the limits of the hydrogen class, and past them */
+    {LOONSTOOL_ACCEPTED, 3, {1, HYDROGEN, 52}, {50000, 900000, 50000}},
+    {LOONSTOOL_METHANE_LOW, 3, {1, HYDROGEN, 52}, {50000, 899999, 50001}},
+    {LOONSTOOL_METHANE_LOW, 2, {1, HYDROGEN}, {100001, 899999}},
+    {LOONSTOOL_METHANE_LOW, 1, {HYDROGEN}, {899999}},
+    {LOONSTOOL_FRACTION_ABOVE, 3, {1, HYDROGEN, 52}, {50001, 900000, 49999}},
+    {LOONSTOOL_FRACTION_ABOVE, 2, {1, HYDROGEN}, {100000, 900000}},
+    {LOONSTOOL_FRACTION_ABOVE, 3, {HYDROGEN, WATER, 52}, {949798, 201, 50001}},
+    {LOONSTOOL_SUM_OUTSIDE, 1, {HYDROGEN}, {900000}},
+    {LOONSTOOL_SUM_OUTSIDE, 1, {HYDROGEN}, {999899}},
+    {LOONSTOOL_ACCEPTED, 1, {HYDROGEN}, {999900}},
+    {LOONSTOOL_ACCEPTED, 1, {HYDROGEN}, {1000100}},
+    {LOONSTOOL_SUM_OUTSIDE, 1, {HYDROGEN}, {1000101}},
+    {LOONSTOOL_SUM_OUTSIDE, 1, {HYDROGEN}, {UINT32_MAX}},
+    /* hydrogen at its limit outside the class, and above it */
+    {LOONSTOOL_ACCEPTED, 2, {1, HYDROGEN}, {950000, 50000}},
+    {LOONSTOOL_FRACTION_ABOVE, 2, {1, HYDROGEN}, {949999, 50001}},
 };
 
-/* Gases whose sum is outside its range too. */
-static const struct gas beside_sum[] = {
-    {LOONSTOOL_METHANE_LOW, 18, 7, 2, 52, 499999, 500},
-    {LOONSTOOL_FRACTION_ABOVE, 18, 7, 2, 52, 924700, 400000},
-    {LOONSTOOL_WATER_HIGH, 18, 7, 2, 42, 999900, 201},
-};
-
-static void try_gas(const struct gas *gas, const char *what)
+/* The record of a gas for a pair, at the end of a page. */
+static uint8_t *record_of(const struct gas *gas, const uint8_t pair[2])
 {
-    uint8_t record[18] = {'G', 'C', 'R', 1, 0, 15, 15, 2, 1};
-    uint8_t *bytes = bytes_end - gas->length;
-    put_fraction(record + 9, gas->methane);
-    record[13] = gas->line;
-    put_fraction(record + 14, gas->other);
-    record[gas->at] = gas->byte;
-    memcpy(bytes, record, gas->length);
-    expect_refused(bytes, gas->length, gas->number, what);
+    const uint8_t head[8] = {'G', 'C', 'R', 1, 0, pair[0], pair[1], gas->count};
+    uint8_t *bytes = bytes_end - LOONSTOOL_RECORD_BYTES(gas->count);
+    memcpy(bytes, head, sizeof head);
+    for (size_t i = 0; i < gas->count; i++) {
+        bytes[8 + 5 * i] = gas->lines[i];
+        put_fraction(bytes + 9 + 5 * i, gas->fractions[i]);
+    }
+    return bytes;
 }
 
-/* The writer refuses the two entries of a gas by its number, and leaves the buffer as it was. */
-static void try_writing(const struct gas *gas, const char *what)
+static void try_reading(const struct gas *gas, const char *what, size_t at)
 {
-    uint8_t *buffer = bytes_end - ROOM;
-    two_lines[0] = 1;
-    two_lines[1] = gas->line;
-    two_fractions[0] = gas->methane;
-    two_fractions[1] = gas->other;
+    const uint8_t *bytes = record_of(gas, pairs[0]);
+    const size_t length = LOONSTOOL_RECORD_BYTES(gas->count);
+    if (gas->number != LOONSTOOL_ACCEPTED) {
+        expect_refused(bytes, length, gas->number, what);
+        return;
+    }
+    expect(loonstool_properties_of(bytes, length, properties) == LOONSTOOL_ACCEPTED, what, at);
+    expect(loonstool_per_kilogram(bytes, length, per_kilogram) == LOONSTOOL_ACCEPTED, what, at);
+    expect_read(bytes, pairs[0], gas->count, gas->lines, gas->fractions, what, at);
+    mark_filled();
+}
+
+/* The writer gives a gas its number, and fills the bytes of the record alone, none where it refuses; without a buffer it refuses by 20 what
+ * it would write. */
+static void try_writing(const struct gas *gas, const char *what, size_t at)
+{
+    const bool accepted = gas->number == LOONSTOOL_ACCEPTED;
+    const size_t n = gas->count, length = LOONSTOOL_RECORD_BYTES(n), written = accepted ? length : 0;
+    const uint8_t *lines = memcpy(lines_end - n, gas->lines, n), unlent = accepted ? LOONSTOOL_BUFFER_SHORT : gas->number;
+    const uint32_t *fractions = memcpy(fractions_end - n, gas->fractions, n * sizeof *fractions_end);
+    uint8_t record[LOONSTOOL_RECORD_BYTES(MOST_ENTRIES)], *buffer = bytes_end - ROOM;
+    memcpy(record, record_of(gas, pairs[0]), length);
     memset(buffer, 0x5a, ROOM);
-    expect(loonstool_write(15, 15, two_lines, 2, two_fractions, 2, buffer, ROOM) == gas->number, what, gas->number);
-    expect(all_are(buffer, ROOM, 0x5a), what, gas->number);
+    expect(loonstool_write(15, 15, lines, n, fractions, n, NULL, 0) == unlent, what, at);
+    expect(loonstool_write(15, 15, lines, n, fractions, n, buffer, ROOM) == gas->number, what, at);
+    expect(memcmp(buffer, record, written) == 0 && all_are(buffer + written, ROOM - written, 0x5a), what, at);
 }
 
-/* Each number that a record may have, and those that come before 9 where it holds too. */
+static void try_gas(const struct gas *gas, const char *what, size_t at)
+{
+    try_reading(gas, what, at);
+    try_writing(gas, what, at);
+}
+
+/* Hydrogen with each other line at its limit in the hydrogen class, and above it. */
+static void try_limits_of_class(void)
+{
+    for (uint8_t line = 1; line <= LOONSTOOL_LINES; line++) {
+        const size_t at = line > HYDROGEN;
+        const uint32_t limit = line == WATER ? 200 : 50000;
+        struct gas gas = {LOONSTOOL_ACCEPTED, 2, {HYDROGEN, HYDROGEN}, {1000000 - limit, 1000000 - limit}};
+        if (line == HYDROGEN)
+            continue;
+        gas.lines[at] = line;
+        gas.fractions[at] = limit;
+        try_gas(&gas, "hydrogen with a line at its limit", line);
+        gas.number = line == WATER ? LOONSTOOL_WATER_HIGH : LOONSTOOL_FRACTION_ABOVE;
+        gas.fractions[at]++;
+        gas.fractions[!at]--;
+        try_gas(&gas, "hydrogen with a line above its limit", line);
+    }
+}
+
+/* A record of methane and ethane damaged: `length` bytes of it, with the byte at `at` set, and the number that refuses it. */
+struct damage {
+    uint8_t number, length, at, byte;
+};
+
+static const struct damage of_record[] = {
+    {LOONSTOOL_RECORD_SHORT, 7, 0, 'G'},
+    {LOONSTOOL_MARK_DIFFERS, 18, 1, 'G'},
+    {LOONSTOOL_VERSION_DIFFERS, 18, 3, 2},
+    {LOONSTOOL_PAIR_NOT_PERMITTED, 18, 6, 20},
+    {LOONSTOOL_COUNT_OUTSIDE, 18, 7, 0},
+    {LOONSTOOL_LENGTH_DIFFERS, 17, 7, 2},
+};
+
+static void try_damage(const struct damage *damage)
+{
+    const struct gas whole = {LOONSTOOL_ACCEPTED, 2, {1, 2}, {950000, 50000}};
+    uint8_t *record = record_of(&whole, pairs[0]);
+    record[damage->at] = damage->byte;
+    expect_refused(memmove(bytes_end - damage->length, record, damage->length), damage->length, damage->number, "a damaged record");
+}
+
+/* Each number that a record may have, those that come before 9 where it holds too, and the limits of both classes. */
 static void try_numbers(void)
 {
-    for (size_t i = 0; i < sizeof gases / sizeof *gases; i++) {
-        expect(gases[i].number == i + 1, "each number of a record", i);
-        try_gas(&gases[i], "a record for each number");
+    bool tried[LOONSTOOL_WATER_HIGH + 1] = {false};
+    for (size_t i = 0; i < sizeof of_record / sizeof *of_record; i++) {
+        tried[of_record[i].number] = true;
+        try_damage(&of_record[i]);
     }
-    for (size_t i = LOONSTOOL_LINE_OUTSIDE - 1; i < sizeof gases / sizeof *gases; i++)
-        try_writing(&gases[i], "two entries for each number");
-    for (size_t i = 0; i < sizeof beside_sum / sizeof *beside_sum; i++) {
-        try_gas(&beside_sum[i], "a limit before the sum");
-        try_writing(&beside_sum[i], "a limit before the sum, written");
+    for (size_t i = 0; i < sizeof gases / sizeof *gases; i++) {
+        tried[gases[i].number] = true;
+        try_gas(&gases[i], "a gas", i);
+    }
+    for (size_t number = 0; number < sizeof tried; number++)
+        expect(tried[number], "each number of a record", number);
+    try_limits_of_class();
+}
+
+/* Hydrogen at each pair. */
+static void try_hydrogen(void)
+{
+    for (size_t i = 0; i < PAIRS; i++) {
+        const uint8_t *bytes = record_of(&hydrogen, pairs[i]);
+        expect(loonstool_properties_of(bytes, K2_BYTES, properties) == LOONSTOOL_ACCEPTED, "hydrogen", i);
+        expect(memcmp(properties, of_hydrogen[i], sizeof *properties) == 0, "the properties of hydrogen", i);
+        expect(loonstool_per_kilogram(bytes, K2_BYTES, per_kilogram) == LOONSTOOL_ACCEPTED, "hydrogen per kilogram", i);
+        expect(memcmp(per_kilogram, hydrogen_per_kilogram[i], sizeof *per_kilogram) == 0, "hydrogen per kilogram", i);
     }
 }
 
@@ -367,16 +481,15 @@ static void expect_accepted(uint8_t given, size_t stream, const char *what)
 /* The record of methane alone, for a pair, at the end of a page. */
 static const uint8_t *methane_at(const uint8_t pair[2])
 {
-    const uint8_t k2[K2_BYTES] = {'G', 'C', 'R', 1, 0, pair[0], pair[1], 1, 1, 0x40, 0x42, 0x0f, 0};
-    return memcpy(bytes_end - K2_BYTES, k2, K2_BYTES);
+    return record_of(&methane, pair);
 }
 
 /* Methane alone at each pair: h of the combustion temperature by m, to the nearest. */
 static void try_per_kilogram(void)
 {
-    const uint64_t mass = 160430, heats[6][2] = {{891560, 802690}, {892970, 802820}, {891560, 802690},
-                                                 {890630, 802600}, {891090, 802650}, {890630, 802600}};
-    for (size_t i = 0; i < 6; i++) {
+    const uint64_t mass = 160430, heats[PAIRS][2] = {{891560, 802690}, {892970, 802820}, {891560, 802690},
+                                                     {890630, 802600}, {891090, 802650}, {890630, 802600}};
+    for (size_t i = 0; i < PAIRS; i++) {
         const uint64_t superior = (2000000 * heats[i][0] + mass) / (2 * mass), inferior = (2000000 * heats[i][1] + mass) / (2 * mass);
         expect(loonstool_per_kilogram(methane_at(pairs[i]), K2_BYTES, per_kilogram) == LOONSTOOL_ACCEPTED, "methane per kilogram", i);
         expect(per_kilogram->superior == superior && per_kilogram->inferior == inferior, "methane per kilogram", i);
@@ -391,21 +504,23 @@ static void make_fresh(void)
     saved = *meter;
 }
 
-/* Totals and means of a stream that metered a volume of methane at 15/15; the meter may not be written meanwhile. */
-static void expect_readings(size_t stream, uint64_t volume)
+/* Totals and means of a stream that metered volumes of methane and of hydrogen at 15/15; the meter may not be written meanwhile. */
+static void expect_readings(size_t stream, uint64_t methane_volume, uint64_t hydrogen_volume)
 {
-    uint64_t right[1 + 2 * REGISTERS] = {volume};
+    const wide volume = (wide)methane_volume + hydrogen_volume;
+    uint64_t right[1 + 2 * REGISTERS] = {(uint64_t)volume}, right_mean[REGISTERS];
     for (size_t i = 0; i < REGISTERS; i++) {
-        const wide amount = (wide)volume * of_methane[i];
+        const wide amount = (wide)methane_volume * of_methane[i] + (wide)hydrogen_volume * of_hydrogen[0][registers[i].property - Z];
         right[1 + 2 * i] = (uint64_t)(amount / registers[i].parts);
         right[2 + 2 * i] = (uint64_t)(amount % registers[i].parts);
+        right_mean[i] = (uint64_t)((2 * amount + volume) / (2 * volume));
     }
     let_write_meter(false);
     expect(loonstool_meter_totals(meter, stream, totals) == LOONSTOOL_ACCEPTED, "totals", stream);
-    expect(memcmp(totals, right, sizeof right) == 0, "the totals of methane", stream);
+    expect(memcmp(totals, right, sizeof right) == 0, "the totals of methane and hydrogen", stream);
     for (size_t i = 0; i < 2; i++) {
         expect(means[i](meter, stream, mean) == LOONSTOOL_ACCEPTED, "a mean", stream);
-        expect(*mean == of_methane[i], "the mean of methane", stream);
+        expect(*mean == right_mean[i], "the mean of methane and hydrogen", stream);
     }
     let_write_meter(true);
     mark_filled();
@@ -583,8 +698,8 @@ static void try_days(void)
     static const uint8_t not_permitted[2] = {25, 15};
     for (size_t stream = 0; stream < LOONSTOOL_STREAMS; stream++) {
         try_day(stream, not_permitted, 1, 10000001, 0);
-        try_day(stream, pairs[stream % 6], 10000001, 0, stream);
-        try_day(stream, pairs[(stream + 1) % 6], 1, UINT64_MAX, 10000000);
+        try_day(stream, pairs[stream % PAIRS], 10000001, 0, stream);
+        try_day(stream, pairs[(stream + 1) % PAIRS], 1, UINT64_MAX, 10000000);
     }
 }
 
@@ -592,7 +707,7 @@ static void try_days(void)
 static void try_streams(void)
 {
     for (size_t stream = 0; stream < LOONSTOOL_STREAMS; stream++) {
-        const uint8_t *pair = pairs[stream % 6], *other_pair = pairs[(stream + 1) % 6];
+        const uint8_t *pair = pairs[stream % PAIRS], *other_pair = pairs[(stream + 1) % PAIRS];
         expect_left(loonstool_meter_metering(meter, stream, 0), LOONSTOOL_NO_ANALYSIS, "no analysis", stream);
         expect_left(loonstool_meter_metering(meter, stream, 10000000), LOONSTOOL_NO_ANALYSIS, "no analysis", stream);
         expect_no_means(stream, LOONSTOOL_TOTAL_ZERO, "a mean without an analysis");
@@ -601,7 +716,7 @@ static void try_streams(void)
         expect_left(loonstool_meter_analysis(meter, stream, methane_at(other_pair), K2_BYTES), LOONSTOOL_PAIR_DIFFERS, "a pair", stream);
         expect_accepted(loonstool_meter_metering(meter, stream, pair == pairs[0] ? 1000 : stream), stream, "metering");
         if (pair == pairs[0])
-            expect_readings(stream, 1000);
+            expect_readings(stream, 1000, 0);
     }
 }
 
@@ -609,8 +724,24 @@ static void try_streams(void)
 static void try_streams_again(void)
 {
     for (size_t stream = 0; stream < LOONSTOOL_STREAMS; stream++) {
-        expect_accepted(loonstool_meter_analysis(meter, stream, methane_at(pairs[stream % 6]), K2_BYTES), stream, "another analysis");
+        expect_accepted(loonstool_meter_analysis(meter, stream, methane_at(pairs[stream % PAIRS]), K2_BYTES), stream, "another analysis");
         expect_accepted(loonstool_meter_metering(meter, stream, 100 * stream), stream, "another metering");
+    }
+}
+
+/* A stream for each pair goes on with hydrogen, and its totals with what it metered of methane. */
+static void try_other_class(void)
+{
+    for (size_t stream = PAIRS; stream < 2 * PAIRS; stream++) {
+        const uint8_t *pair = pairs[stream % PAIRS], *other_pair = pairs[(stream + 1) % PAIRS];
+        const uint64_t volume = meter->words[stream][VOLUME];
+        expect_accepted(loonstool_meter_analysis(meter, stream, record_of(&hydrogen, pair), K2_BYTES), stream, "hydrogen");
+        expect(memcmp(meter->words[stream] + Z, of_hydrogen[stream % PAIRS], sizeof *of_hydrogen) == 0, "hydrogen in force", stream);
+        expect_left(loonstool_meter_analysis(meter, stream, record_of(&hydrogen, other_pair), K2_BYTES), LOONSTOOL_PAIR_DIFFERS,
+                    "hydrogen, a pair", stream);
+        expect_accepted(loonstool_meter_metering(meter, stream, 9999999), stream, "hydrogen metered");
+        if (pair == pairs[0])
+            expect_readings(stream, volume, 9999999);
     }
 }
 
@@ -631,7 +762,7 @@ static void try_full_stream(void)
     try_day(0, pairs[0], 1, 0, 10000000);
     expect_left(loonstool_meter_metering(meter, 0, 10000001), LOONSTOOL_VOLUME_ABOVE, "15 before 17", 0);
     expect_accepted(loonstool_meter_metering(meter, 0, 0), 0, "nothing more on a full stream");
-    expect_readings(0, highest[VOLUME]);
+    expect_readings(0, highest[VOLUME], 0);
 }
 
 /* The greatest whole number whose square is at most n. */
@@ -689,7 +820,7 @@ static bool can_be(const uint64_t *words)
     for (size_t i = 0; i < REGISTERS; i++)
         if (!volume_has(words, &registers[i]))
             return false;
-    for (size_t i = 0; i < 6; i++)
+    for (size_t i = 0; i < PAIRS; i++)
         permitted |= words[COMBUSTION] == pairs[i][0] && words[METERING] == pairs[i][1];
     return permitted && words[HI] <= words[HS] && words[RHO] <= density + 5 && density <= words[RHO] + 5 &&
            words[W] == index_of(words[HS], words[D]) && amount_of(words, &registers[INFERIOR]) <= amount_of(words, &registers[SUPERIOR]);
@@ -861,6 +992,7 @@ static void try_meter(void)
     try_refused_days();
     try_streams_again();
     try_days();
+    try_other_class();
     try_full_stream();
     try_damages();
     try_drawn_damages();
@@ -901,8 +1033,8 @@ static void lend(void)
     next = filled[10].at;
     block = lent(sizeof *block);
     meter = lent(sizeof *meter);
-    two_lines = lent(2 * sizeof *two_lines);
-    two_fractions = lent(2 * sizeof *two_fractions);
+    lines_end = page_end(MOST_ENTRIES);
+    fractions_end = (uint32_t *)(void *)page_end(MOST_ENTRIES * sizeof *fractions_end);
 }
 
 int main(void)
@@ -917,6 +1049,7 @@ int main(void)
     try_short(k1_bytes);
     try_long(k1_bytes);
     try_numbers();
+    try_hydrogen();
     try_pair();
     try_per_kilogram();
     try_walk();

@@ -10,9 +10,11 @@
  * A record, numbers least significant byte first: bytes 0 to 2 the mark "GCR", 3 and 4 the version, 1, 5 the combustion temperature and 6
  * the metering temperature in degrees Celsius, 7 the number of entries n, 1 to 55; then n entries of 5 bytes, the line number (1 byte) and
  * the mole fraction in ppm (4 bytes), line numbers ascending, no fraction 0. The pairs that are permitted, combustion/metering: 15/15,
- * 0/0, 15/0, 25/0, 20/20, 25/20. The fractions add up to 999,900 to 1,000,100; methane is at least 500,000, nitrogen at most 300,000,
- * ethane and carbon dioxide 150,000 each, water 200, every other line but methane 50,000. The lines are those of table 1 of the standard
- * (1 methane, 2 ethane, 42 water, 52 nitrogen, 54 carbon dioxide; all are named in crates/components/specs/Table.antt).
+ * 0/0, 15/0, 25/0, 20/20, 25/20. The fractions add up to 999,900 to 1,000,100. A record with hydrogen at 900,000 or more is of the hydrogen
+ * class, in which water is at most 200 and every other line but hydrogen, methane too, at most 50,000. In any other record methane is at
+ * least 500,000, nitrogen at most 300,000, ethane and carbon dioxide 150,000 each, water 200, every other line but methane 50,000. The
+ * lines are those of table 1 of the standard (1 methane, 2 ethane, 41 hydrogen, 42 water, 52 nitrogen, 54 carbon dioxide; all are named in
+ * crates/components/specs/Table.antt).
  *
  * A day file, numbers least significant byte first: bytes 0 to 2 the mark "GDF", 3 and 4 the version, 1; then blocks one after the other,
  * each a length (2 bytes) and that many bytes, 0 to 65,535, which should be a record, and need not be one that is accepted.
@@ -41,8 +43,9 @@
  * Hs and d, a pair that is not permitted, a stream without an analysis that is not 0 everywhere, a volume total above 999,999,999,999 dm3,
  * of each energy, superior and inferior, a rest of 10^9 mJ or more, of the mass a rest of 1 kg or more, and of each of the three
  * an amount that the volume cannot have; and an inferior energy above the superior one. It cannot find a damage after which all of this
- * holds, as it may after a flipped bit of a volume total: that takes a checksum. Words kept by one version of the library go into another
- * where LOONSTOOL_STREAMS and LOONSTOOL_STREAM_WORDS are the same; before an update to one with other numbers the totals are read out.
+ * holds, as it may after a flipped bit of a volume total: that takes a checksum. Words kept by one version of the library go into a later
+ * one where LOONSTOOL_STREAMS and LOONSTOOL_STREAM_WORDS are the same; before an update to one with other numbers the totals are read out.
+ * An earlier version may refuse words that come of a record which it refuses.
  *
  * Power cuts: a call is several stores, in no order that is promised. A cut between them leaves neither the meter before the call nor the
  * one after it, but, for instance, a volume without its energies, which loonstool_meter_check need not find. So firmware keeps the meter
@@ -95,7 +98,7 @@ enum loonstool_number {
     LOONSTOOL_FRACTION_ZERO = 8,      /* a fraction is 0 */
     LOONSTOOL_SUM_OUTSIDE = 9,        /* sum outside its range */
     LOONSTOOL_METHANE_LOW = 10,       /* methane too low */
-    LOONSTOOL_FRACTION_ABOVE = 11,    /* a line other than methane and water above its limit */
+    LOONSTOOL_FRACTION_ABOVE = 11,    /* a line other than water above its limit */
     LOONSTOOL_WATER_HIGH = 12,        /* water above 200 */
     LOONSTOOL_STREAM_ABOVE = 13,      /* stream above 15 */
     LOONSTOOL_PAIR_DIFFERS = 14,      /* pair is not the stream's */
