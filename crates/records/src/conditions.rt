@@ -1,5 +1,5 @@
 // The conditions of a record's head and of an entry, each with document 01's number.
-ghost use Rattle.std.specs.Prelude.{◌≡◌};
+ghost use Rattle.std.specs.Prelude.{◌≡◌, true, false};
 ghost use Rattle.records.specs.Order.{first_of};
 ghost use Rattle.records.specs.Refusals.{number_in};
 ghost use Rattle.records.specs.Conditions.{limit_of, unlimited, count_outside, above_limit, head_order};
@@ -78,13 +78,23 @@ fn unlimited(class: bool) -> u8
     if class { HYDROGEN } else { METHANE }
 }
 
-// An entry of a line other than water is above its limit.
-pub fn above_limit(class: bool, line: u8, fraction: u32) -> bool
+// An entry of a line other than water is above its limit, outside the hydrogen class or in it.
+fn above_limit(class: bool, line: u8, fraction: u32) -> bool
     ensures { result ≡ above_limit class line fraction }
 {
-    if fraction <= COMMON_LIMIT {
-        return false;
-    }
-    // `&` leaves no branch in the scan but the one above.
     (line != unlimited(class)) & (line != WATER) & (limit_of(class, line) < fraction)
+}
+
+// The same outside the class, and in it.
+pub fn above_limits(line: u8, fraction: u32) -> (bool, bool)
+    ensures { result ≡ (above_limit false line fraction, above_limit true line fraction) }
+{
+    // The one branch of the scan: most fractions are below every limit but water's.
+    if fraction <= COMMON_LIMIT {
+        return (false, false);
+    }
+    (
+        above_limit(false, line, fraction),
+        above_limit(true, line, fraction),
+    )
 }

@@ -43,13 +43,14 @@ impl Scan {
         ensures inside { result.above_inside ≡ (self.above_inside || above_limit true line fraction) }
         ensures water { result.water ≡ cond (eqb line water) fraction self.water }
     {
+        let (outside, inside) = conditions::above_limits(line, fraction);
         // `|` and `fraction_or` leave no branch: a `match` on the line takes up to twice the time over 55 entries.
         Self {
             sum: self.sum + u64::from(fraction),
             methane: fraction_or(self.methane, conditions::METHANE, line, fraction),
             hydrogen: fraction_or(self.hydrogen, conditions::HYDROGEN, line, fraction),
-            above_outside: self.above_outside | conditions::above_limit(false, line, fraction),
-            above_inside: self.above_inside | conditions::above_limit(true, line, fraction),
+            above_outside: self.above_outside | outside,
+            above_inside: self.above_inside | inside,
             water: fraction_or(self.water, conditions::WATER, line, fraction),
         }
     }
