@@ -221,11 +221,13 @@ fn hydrogen_900000() -> Named {
     ("hydrogen 900,000", "hydrogen_900000", (15, 15), entries)
 }
 
-/// S/10 is -4,784,506.5.
 fn half_below_zero() -> Named {
-    let entries = hydrogen_and(&[(1, 313)]);
+    let entries = HALF_BELOW_ZERO.to_vec();
     ("half below zero", "half_below_zero", (15, 15), entries)
 }
+
+/// Methane and hydrogen: at 15 °C S/10 is -4,784,506.5, and each rounding gives another Z.
+pub const HALF_BELOW_ZERO: [(u8, u32); 2] = [(1, 313), (41, 999_687)];
 
 fn all_lines_in_class() -> Named {
     let title = "hydrogen, every line";
