@@ -130,11 +130,11 @@ impl Properties {
     /// What no property of an accepted record is below.
     pub const FLOORS: Properties = Properties {
         z: 724_000_000,
-        hs: 16_680_000,
-        hi: 16_680_000,
-        rho: 33_000_000,
-        d: 27_590_000,
-        w: 3_880_000,
+        hs: 9_030_000,
+        hi: 9_030_000,
+        rho: 7_540_000,
+        d: 6_250_000,
+        w: 2_100_000,
     };
 }
 
