@@ -11,7 +11,7 @@ mod root_search;
 mod timing;
 
 use root_search::{
-    densities_of_hydrogen, densities_of_natural_gases, density_of_k1, integer_root, radicand,
+    densities_in_hydrogen_class, densities_of_natural_gases, density_of_k1, integer_root, radicand,
     search,
 };
 use std::hint::black_box;
@@ -34,10 +34,10 @@ fn main() {
     );
     let k1 = row("K1", &[density_of_k1()]);
     let natural = row("natural gases in turn", &densities_of_natural_gases());
-    let hydrogen = row("hydrogen in turn, d to 0.12", &densities_of_hydrogen());
+    let hydrogen = row("hydrogen class in turn", &densities_in_hydrogen_class());
     goal("root of K1 no slower than u64::isqrt", k1, 1.0);
     goal("roots of natural gases no slower", natural, 1.0);
-    goal("roots of hydrogen no slower", hydrogen, 1.0);
+    goal("roots in the hydrogen class no slower", hydrogen, 1.0);
 }
 
 /// Measures both sides on relative densities, prints the figures, and answers the

@@ -9,7 +9,7 @@ mod plain;
 mod records;
 
 use calls::{analysis, call, day, Answer, Call, TakesCalls};
-use cases::{every_line, record, K1, K2};
+use cases::{every_line, record, K1, K2, PAIRS};
 use loonstool::{Meter, NotAMeter, Properties, Words, STREAMS, STREAM_WORDS};
 use plain::conditions::Conditions;
 use plain::day_file::file_of;
@@ -18,7 +18,7 @@ use plain::meter::{
 };
 use plain::properties::{air_density, by_air, index};
 use plain::words::{hold_a_meter, meter_of, words_of};
-use records::{Random, PAIRS};
+use records::Random;
 
 const SEED: u64 = 6976;
 
