@@ -23,6 +23,11 @@ impl Class {
         }
     }
 
+    /// That of an accepted record.
+    pub fn of_record(record: &[u8]) -> Self {
+        Self::of(super::entries(record))
+    }
+
     /// What stands after the name of something that occurs in the class.
     pub fn name(self) -> &'static str {
         match self {

@@ -1,6 +1,6 @@
 //! How often the limits were met and passed by one.
 
-use super::{Class, WriterCall, SUM};
+use super::{entries, Class, WriterCall, SUM};
 use crate::cases::{HYDROGEN, METHANE, WATER};
 
 /// A limit counts as met where the call is accepted, or goes on to a later
@@ -66,16 +66,16 @@ impl Limits {
 
     /// Books a record and the number of its answer, 0 where it is accepted.
     pub fn book_record(&mut self, record: &[u8], number: usize) {
-        let entries = record.get(7).copied();
+        let given = record.get(7).copied();
         let met = [
             record.len() == 8 && number > 1,
             record.len() == 7 && number == 1,
-            entries == Some(55) && number == 0,
-            entries == Some(56) && number == 5,
+            given == Some(55) && number == 0,
+            given == Some(56) && number == 5,
         ];
         count(&mut self.of_record, met);
         if number == 0 || number > 8 {
-            let entries: Vec<_> = record[8..].chunks_exact(5).map(entry).collect();
+            let entries: Vec<_> = entries(record).collect();
             self.book_entries(&entries, number);
         }
     }
@@ -212,11 +212,6 @@ fn limit_of(class: Class, line: u8) -> (u32, u32, usize) {
         WATER => (limit, limit + 1, 12),
         _ => (limit, limit + 1, 11),
     }
-}
-
-fn entry(bytes: &[u8]) -> (u8, u32) {
-    let fraction = [bytes[1], bytes[2], bytes[3], bytes[4]];
-    (bytes[0], u32::from_le_bytes(fraction))
 }
 
 fn count(counts: &mut [u64; 4], met: [bool; 4]) {

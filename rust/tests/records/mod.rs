@@ -544,6 +544,14 @@ fn lengthen(random: &mut Random, draft: &mut Draft, least: usize) {
     draft.fractions.resize(length, 1);
 }
 
+/// The entries of a record that is long enough for its header.
+fn entries(record: &[u8]) -> impl Iterator<Item = (u8, u32)> + '_ {
+    let (entries, _) = record[8..].as_chunks::<5>();
+    entries
+        .iter()
+        .map(|[line, fraction @ ..]| (*line, u32::from_le_bytes(*fraction)))
+}
+
 /// Bytes in hexadecimal, after their count.
 pub fn hex(bytes: &[u8]) -> String {
     let mut text = format!("({} bytes)", bytes.len());
