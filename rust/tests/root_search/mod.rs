@@ -5,6 +5,7 @@
 #![allow(dead_code)]
 
 use crate::cases::{hydrogen_and, methane_and, record, K1};
+use std::hint::black_box;
 
 /// Places in which a search tells its candidates.
 pub const PLACES: usize = 40;
@@ -39,6 +40,20 @@ pub fn search(n: u64) -> (usize, [u32; PLACES]) {
     // SAFETY: `tried` is ours.
     let rounds = unsafe { archive::try_root_search(n, &mut tried) };
     (rounds as usize, tried)
+}
+
+/// A function that takes the root of a number.
+pub type Root = extern "C" fn(u64) -> u64;
+
+/// Takes the roots of numbers over and over, one after the other: each waits for
+/// the one before, of which all bits above 32 are 0.
+#[inline(never)]
+pub fn one_by_one(root: Root, numbers: &[u64], calls: u32) {
+    let mut last = 0;
+    for n in numbers.iter().cycle().take(calls as usize) {
+        last = root(n + (last >> 32));
+    }
+    black_box(last);
 }
 
 /// The root of n, as the library calculates it.
