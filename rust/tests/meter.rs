@@ -180,10 +180,8 @@ impl Counts {
             println!("{name}: rest carried to the whole {carries} times");
         }
         let [outside, in_class] = self.analyses;
-        println!(
-            "accepted analyses, those in day files among them: {outside} outside the hydrogen class, {in_class} in it; both on one stream of a list {} times",
-            self.mixed
-        );
+        println!("accepted analyses, those in day files too: {outside} outside the hydrogen class, {in_class} in it");
+        println!("both classes on one stream of a list: {} times", self.mixed);
     }
 
     /// What occurs less often than due, and what a call cannot give.
