@@ -1,6 +1,6 @@
 //! Links the static library that `tools/build library` writes: from the folder that LOONSTOOL_LIB_DIR names by its whole path, or from
-//! ../target/staticlib. The test `rounds` and the benchmark `root` link libtry_root.a from there, which `tools/build try_root` writes. The
-//! benchmarks get c/doubles.c too, where the repository and a C compiler are at hand.
+//! ../target/staticlib. The test `rounds` and the benchmarks `root` and `ratio` link libtry_root.a from there, which `tools/build try_root`
+//! writes. The benchmarks get c/doubles.c too, where the repository and a C compiler are at hand.
 use std::env;
 use std::path::{Path, PathBuf};
 use std::process::Command;

@@ -1,6 +1,7 @@
 //! Times the properties of a record in one process: of the proved library, of
-//! the plain version in Rust, and of c/doubles.c; and its values per kilogram,
-//! of the first two.
+//! the plain version in Rust, and of c/doubles.c; its values per kilogram, of the
+//! first two; and those of the library beside one another on a record outside the
+//! hydrogen class and on one in it with as many lines.
 //!
 //! `cargo bench --offline --bench ratio`
 
@@ -8,10 +9,13 @@
 mod cases;
 #[path = "../tests/plain/mod.rs"]
 mod plain;
+#[path = "../tests/root_search/mod.rs"]
+mod root_search;
 mod timing;
 
-use cases::{every_line, record, K1};
+use cases::{every_line, hydrogen_and, methane_and, record, K1};
 use loonstool::{PerKilogram, Properties, Refusal};
+use root_search::{integer_root, one_by_one, radicand, search};
 use std::hint::black_box;
 use std::time::{Duration, Instant};
 use timing::{goal, percentile, ratios, Side, REPETITIONS};
@@ -89,23 +93,71 @@ fn main() {
     for (name, record) in &measured[..2] {
         row_per_kilogram(name, record);
     }
+    println!(
+        "{:<39} {:>8} {:>8}   {:<26} rounds of the root",
+        "library, in the hydrogen class / not", "in it", "not", "in it / not"
+    );
+    let [annex_d, .., methane, hydrogen, hydrogen_8] = &measured;
+    let one = row_of_classes(hydrogen, methane);
+    let eight = row_of_classes(hydrogen_8, annex_d);
     goal("K1 no slower than plain Rust, 0.03 for noise", k1, 1.03);
     goal("55 lines at most 1.25 times plain Rust", all, 1.25);
+    let longer = "in the hydrogen class at most two rounds longer, 0.03 for noise";
+    goal(&format!("one line {longer}"), one, 2.0);
+    goal(&format!("8 lines {longer}"), eight, 2.0);
 }
 
-fn measured() -> [(&'static str, Vec<u8>); 4] {
+/// The fractions that K1 has beside methane, for other lines than hydrogen.
+#[rustfmt::skip]
+const BESIDE_HYDROGEN: [(u8, u32); 7] =
+    [(1, 35_000), (2, 9_800), (3, 2_200), (4, 3_400), (5, 600), (52, 17_500), (54, 6_800)];
+
+/// A record with its name.
+type Named = (&'static str, Vec<u8>);
+
+fn measured() -> [Named; 7] {
     let annex_d = record(15, 15, &K1);
     let mut mark_differs = annex_d.clone();
     mark_differs[0] ^= 1;
     let mut wet = K1.to_vec();
     wet[0].1 -= 201;
     wet.insert(6, (42, 201));
+    let hydrogen_8 = hydrogen_and(&BESIDE_HYDROGEN);
     [
         ("K1, 8 lines", annex_d),
         ("all 55 lines", record(15, 15, &every_line())),
         ("refused early, mark differs", mark_differs),
         ("refused late, K1 with water 201", record(15, 15, &wet)),
+        ("methane alone", record(15, 15, &methane_and(&[]))),
+        ("hydrogen alone", record(15, 15, &hydrogen_and(&[]))),
+        ("hydrogen, 8 lines", record(15, 15, &hydrogen_8)),
     ]
+}
+
+/// Measures the library on two records by turns, prints the figures, and answers how much longer the first takes than 1.03 times the
+/// second, in rounds of the search for its root.
+fn row_of_classes((name, in_class): &Named, (other, outside): &Named) -> f64 {
+    let mut sides = [in_class, outside].map(|record| on(record, SIDES[0]));
+    let ns = timing::measure(&mut sides);
+    let [first, second] = [0, 1].map(|side| percentile(&ns[side], 50));
+    let [(rounds, root), (other_rounds, _)] = [in_class, outside].map(|record| root_of(record));
+    let round = root / rounds as f64;
+    println!(
+        "{:<39} {first:>8.2} {second:>8.2}   {}   {rounds} and {other_rounds}, each {round:.1} ns",
+        format!("{name} / {other}"),
+        timing::shown(&ns[0], &ns[1]),
+    );
+    (first - 1.03 * second) / round
+}
+
+/// The rounds of the search for the root of a record's relative density, and the ns that it takes.
+fn root_of(record: &[u8]) -> (usize, f64) {
+    let properties = loonstool::properties_of(record).expect("the record is accepted");
+    let n = radicand(properties.d);
+    let mut roots: Side = Box::new(move |calls| one_by_one(integer_root, black_box(&[n]), calls));
+    let calls = calls_in_slice(&mut roots);
+    let ns = timing::measure(&mut [(calls, roots)]);
+    (search(n).0, percentile(&ns[0], 50))
 }
 
 /// Measures a record on each side that gives its answer, prints the figures, and answers the ratio of the library to plain Rust. C, which

@@ -11,16 +11,14 @@ mod root_search;
 mod timing;
 
 use root_search::{
-    densities_of_hydrogen, densities_of_natural_gases, density_of_k1, integer_root, radicand,
-    search,
+    densities_in_hydrogen_class, densities_of_natural_gases, density_of_k1, integer_root,
+    one_by_one, radicand, search, Root,
 };
 use std::hint::black_box;
 use timing::{goal, percentile, ratios, Side, REPETITIONS};
 
 /// Roots that a side takes in a repetition, 2 to 5 ms.
 const CALLS: u32 = 100_000;
-
-type Root = extern "C" fn(u64) -> u64;
 
 extern "C" fn isqrt(n: u64) -> u64 {
     n.isqrt()
@@ -34,10 +32,10 @@ fn main() {
     );
     let k1 = row("K1", &[density_of_k1()]);
     let natural = row("natural gases in turn", &densities_of_natural_gases());
-    let hydrogen = row("hydrogen in turn, d to 0.12", &densities_of_hydrogen());
+    let hydrogen = row("hydrogen class in turn", &densities_in_hydrogen_class());
     goal("root of K1 no slower than u64::isqrt", k1, 1.0);
     goal("roots of natural gases no slower", natural, 1.0);
-    goal("roots of hydrogen no slower", hydrogen, 1.0);
+    goal("roots in the hydrogen class no slower", hydrogen, 1.0);
 }
 
 /// Measures both sides on relative densities, prints the figures, and answers the
@@ -54,19 +52,8 @@ fn row(name: &str, densities: &[u64]) -> f64 {
     ratios(&ns[0], &ns[1])[1]
 }
 
-/// The numbers over and over.
+/// The roots of the numbers over and over.
 fn side(root: Root, numbers: &[u64]) -> Side<'_> {
     let (root, numbers) = (black_box(root), black_box(numbers));
-    Box::new(move |calls| repeat(root, numbers, calls))
-}
-
-/// Takes roots one after the other: each waits for the one before, of which all
-/// bits above 32 are 0.
-#[inline(never)]
-fn repeat(root: Root, numbers: &[u64], calls: u32) {
-    let mut last = 0;
-    for n in numbers.iter().cycle().take(calls as usize) {
-        last = root(n + (last >> 32));
-    }
-    black_box(last);
+    Box::new(move |calls| one_by_one(root, numbers, calls))
 }

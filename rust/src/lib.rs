@@ -2,7 +2,11 @@
 //! repository, which also has the format of an analysis record and its limits). The library is for x86-64; what it asks of a program
 //! without an operating system (SSE switched on, `memcpy` and `memset`, 128 bytes below the stack pointer) the header says.
 //!
-//! A [`Meter`] adds up volume, superior energy, inferior energy and mass of sixteen streams of natural gas:
+//! Gases of two classes are accepted. In the hydrogen class hydrogen (line 41) is at 900,000 ppm or more, water at most 200 and every other
+//! line at most 50,000; 10 refuses none of it. Outside it methane is at least 500,000, nitrogen at most 300,000, ethane and carbon dioxide
+//! 150,000 each, water 200 and every other line 50,000. In both the fractions sum to 999,900 to 1,000,100.
+//!
+//! A [`Meter`] adds up volume, superior energy, inferior energy and mass of sixteen streams, each of which takes gases of both classes:
 //!
 //! ```
 //! use loonstool::{Meter, Refusal};
@@ -35,6 +39,10 @@
 //! let properties = loonstool::properties_of(&buffer[..filled])?;
 //! assert_eq!((properties.z, properties.hs), (998_001_910, 37_781_616));
 //! assert_eq!(loonstool::per_kilogram(&buffer[..filled])?.superior, 5_557_315); // 10 J/kg
+//!
+//! // Hydrogen alone.
+//! let filled = loonstool::write(15, 15, &[41], &fractions, &mut buffer)?;
+//! assert_eq!(loonstool::properties_of(&buffer[..filled])?.hs, 12_102_221);
 //! # Ok::<(), loonstool::Refusal>(())
 //! ```
 //!
@@ -130,10 +138,10 @@ impl Properties {
     /// What no property of an accepted record is below.
     pub const FLOORS: Properties = Properties {
         z: 724_000_000,
-        hs: 16_680_000,
-        hi: 16_680_000,
-        rho: 33_000_000,
-        d: 27_590_000,
+        hs: 9_030_000,
+        hi: 9_030_000,
+        rho: 7_540_000,
+        d: 6_250_000,
         w: 3_880_000,
     };
 }

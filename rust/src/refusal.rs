@@ -52,7 +52,7 @@ refusals! {
     8 FRACTION_ZERO "a fraction is 0";
     9 SUM_OUTSIDE "sum outside its range";
     10 METHANE_LOW "methane too low";
-    11 FRACTION_ABOVE "a line other than methane and water above its limit";
+    11 FRACTION_ABOVE "a line other than water above its limit";
     12 WATER_HIGH "water above 200";
     13 STREAM_ABOVE "stream above 15";
     14 PAIR_DIFFERS "pair is not the stream's";

@@ -5,14 +5,16 @@
 //! S is a whole number, or `random` for one from the clock. The seed is
 //! printed, with the command that repeats the run.
 
+mod cases;
 mod comparison;
 mod plain;
 mod records;
 
+use cases::PAIRS;
 use comparison::{place, same, Answers, Comparison, Run};
 use loonstool::{Analysis, PerKilogram, Properties, Refusal};
 use plain::properties::within_half;
-use records::{case, hex, Draft, Limits, Random, WriterCall, PAIRS};
+use records::{case, hex, Class, Draft, Limits, Random, WriterCall};
 use std::process::ExitCode;
 
 const RECORDS: Comparison = Comparison {
@@ -56,11 +58,17 @@ fn compare_all(run: &Run) -> Result<Vec<String>, String> {
 /// How often each answer, pair, line and limit occurred.
 struct Counts {
     answers: Answers<4>,
-    pairs: [u64; 6],
+    /// Of the accepted records of each class.
+    accepted: [Accepted; 2],
     /// Accepted records whose values per kilogram were compared with those at another metering temperature.
     at_other: u64,
-    lines: [u64; 56],
     limits: Limits,
+}
+
+/// How often each pair and line occurred in accepted records.
+struct Accepted {
+    pairs: [u64; 6],
+    lines: [u64; 56],
 }
 
 impl Counts {
@@ -72,14 +80,83 @@ impl Counts {
                 ("read", &OF_RECORD),
                 ("write", &OF_WRITER),
             ]),
-            pairs: [0; 6],
+            accepted: [Accepted::none(), Accepted::none()],
             at_other: 0,
-            lines: [0; 56],
             limits: Limits::none(),
         }
     }
 
     /// Books the lines and the pair of an accepted record.
+    fn book(&mut self, analysis: &Analysis) {
+        let class = draft_of(analysis).class();
+        self.accepted[class as usize].book(analysis);
+    }
+
+    fn print(&self) {
+        self.answers.print();
+        println!("(write: one call for each record, and one for each accepted record read)");
+        for (class, accepted) in Class::BOTH.into_iter().zip(&self.accepted) {
+            accepted.print(class);
+        }
+        println!(
+            "values per kilogram the same at two metering temperatures: {} records",
+            self.at_other
+        );
+        for (of, counts) in self.limits.outside() {
+            let counts = counts
+                .iter()
+                .map(|(number, count)| format!("{count} by {number}"));
+            println!(
+                "{of} refused where the sum is outside its range too: {}",
+                counts.collect::<Vec<_>>().join(", ")
+            );
+        }
+        let (name, count) = self.limits.least();
+        println!("least of the limits, met and passed by one: {name}, {count} times");
+    }
+
+    /// What occurs less often than due, and what a call cannot give.
+    fn failures(&self, run: &Run) -> Vec<String> {
+        let due = run.due();
+        let mut failures = self.answers.failures(due);
+        for (class, accepted) in Class::BOTH.into_iter().zip(&self.accepted) {
+            failures.extend(accepted.failures(class, due));
+        }
+        if self.at_other < due {
+            failures.push(format!(
+                "two metering temperatures only {} times",
+                self.at_other
+            ));
+        }
+        for (of, counts) in self.limits.outside() {
+            for (number, count) in counts {
+                if count < due {
+                    failures.push(format!(
+                        "{of} refused by {number} beside the sum only {count} times"
+                    ));
+                }
+            }
+        }
+        let (name, count) = self.limits.least();
+        if count < run.due_of_limits() {
+            failures.push(format!("{name} only {count} times"));
+        }
+        let count = self.limits.methane_low_in_class();
+        if count > 0 {
+            failures.push(format!("10 refuses {count} times in the hydrogen class"));
+        }
+        failures
+    }
+}
+
+impl Accepted {
+    fn none() -> Self {
+        Self {
+            pairs: [0; 6],
+            lines: [0; 56],
+        }
+    }
+
     fn book(&mut self, analysis: &Analysis) {
         let pair = (analysis.combustion, analysis.metering);
         for (count, permitted) in self.pairs.iter_mut().zip(PAIRS) {
@@ -96,59 +173,28 @@ impl Counts {
         lines.min_by_key(|(_, count)| *count).unwrap_or_default()
     }
 
-    fn print(&self) {
-        self.answers.print();
-        println!("(write: one call for each record, and one for each accepted record read)");
-        println!("accepted records by pair:");
+    fn print(&self, class: Class) {
+        let number: u64 = self.pairs.iter().sum();
+        println!("{number} accepted records{}, by pair:", class.name());
         for ((combustion, metering), count) in PAIRS.iter().zip(self.pairs) {
             println!("{:>8} {count:>13}", format!("{combustion}/{metering}"));
         }
-        println!(
-            "values per kilogram the same at two metering temperatures: {} records",
-            self.at_other
-        );
         let (line, count) = self.least_line();
-        println!("least of the 55 lines in accepted records: line {line}, {count} times");
-        for (of, [ten, eleven, twelve]) in self.limits.outside() {
-            println!("{of} refused by 10, 11 and 12 where the sum is outside its range too: {ten}, {eleven}, {twelve}");
-        }
-        let (name, count) = self.limits.least();
-        println!("least of the limits, met and passed by one: {name}, {count} times");
+        println!("least of the 55 lines in them: line {line}, {count} times");
     }
 
-    /// What occurs less often than due, and what a call cannot give.
-    fn failures(&self, run: &Run) -> Vec<String> {
-        let due = run.due();
-        let mut failures = self.answers.failures(due);
-        for ((combustion, metering), count) in PAIRS.iter().zip(self.pairs) {
-            if count < due {
-                failures.push(format!("pair {combustion}/{metering} only {count} times"));
-            }
-        }
-        if self.at_other < due {
-            failures.push(format!(
-                "two metering temperatures only {} times",
-                self.at_other
-            ));
-        }
+    /// What occurs less often than due.
+    fn failures(&self, class: Class, due: u64) -> Vec<String> {
+        let pairs = PAIRS.iter().zip(self.pairs);
+        let pairs = pairs.map(|((combustion, metering), count)| {
+            (format!("pair {combustion}/{metering}"), count)
+        });
         let (line, count) = self.least_line();
-        if count < due {
-            failures.push(format!("line {line} only {count} times"));
-        }
-        for (of, counts) in self.limits.outside() {
-            for (number, count) in (10..).zip(counts) {
-                if count < due {
-                    failures.push(format!(
-                        "{of} refused by {number} beside the sum only {count} times"
-                    ));
-                }
-            }
-        }
-        let (name, count) = self.limits.least();
-        if count < run.due_of_limits() {
-            failures.push(format!("{name} only {count} times"));
-        }
-        failures
+        pairs
+            .chain([(format!("line {line}"), count)])
+            .filter(|(_, count)| *count < due)
+            .map(|(what, count)| format!("{what}{} only {count} times", class.name()))
+            .collect()
     }
 }
 
@@ -173,14 +219,14 @@ fn shown(what: &str, record: &[u8]) -> String {
     format!("{what}\nrecord: {}", hex(record))
 }
 
-/// Compares the properties, also with their ceilings.
+/// Compares the properties, also with their floors and ceilings.
 fn compare_properties(record: &[u8], counts: &mut Counts) -> Result<(), String> {
     let expected = plain::properties_of(record);
     let proved = loonstool::properties_of(record).map_err(Refusal::number);
     same(&expected, &proved, || shown("properties_of", record))?;
     counts.answers.book(PROPERTIES_OF, &expected);
-    if expected.is_ok_and(|properties| !within_ceilings(&properties)) {
-        return Err(shown("properties_of, past a ceiling", record));
+    if expected.is_ok_and(|properties| !within_bounds(&properties)) {
+        return Err(shown("properties_of, past a floor or a ceiling", record));
     }
     Ok(())
 }
@@ -220,22 +266,27 @@ fn at_other_metering(record: &[u8]) -> Option<Vec<u8>> {
     Some(other)
 }
 
-/// Whether no property passes its ceiling.
-fn within_ceilings(properties: &Properties) -> bool {
-    let ceilings = plain::six(&Properties::CEILINGS);
-    let mut six = plain::six(properties).into_iter().zip(ceilings);
-    six.all(|(property, ceiling)| property <= ceiling)
+/// Whether no property is below its floor or above its ceiling.
+fn within_bounds(properties: &Properties) -> bool {
+    let of_three = [&Properties::FLOORS, &Properties::CEILINGS, properties];
+    let [floors, ceilings, six] = of_three.map(plain::six);
+    (0..6).all(|i| (floors[i]..=ceilings[i]).contains(&six[i]))
+}
+
+/// What was read, as a draft.
+fn draft_of(read: &Analysis) -> Draft {
+    Draft {
+        combustion: read.combustion,
+        metering: read.metering,
+        lines: read.lines[..read.count].to_vec(),
+        fractions: read.fractions[..read.count].to_vec(),
+    }
 }
 
 /// Writes what was read and compares the bytes with the record.
 fn write_back(record: &[u8], read: &Analysis, counts: &mut Counts) -> Result<(), String> {
     let call = WriterCall {
-        draft: Draft {
-            combustion: read.combustion,
-            metering: read.metering,
-            lines: read.lines[..read.count].to_vec(),
-            fractions: read.fractions[..read.count].to_vec(),
-        },
+        draft: draft_of(read),
         buffer: record.iter().map(|byte| !byte).collect(),
     };
     let written = compare_call(&call, counts)?;

@@ -19,11 +19,12 @@ use calls::{call, Answer, Call, TakesCalls};
 use comparison::{same, Answers, Comparison, Run};
 use counted_calls::{count, none_counted};
 use loonstool::STREAMS;
+use plain::day_file::blocks;
 use plain::meter::GREATEST_TOTAL;
 use plain::words::{hold_a_meter, row_of, words_of};
 use plain::{Meter, Tally};
 use random_calls::{aim, filling, random_call, room, shown};
-use records::Random;
+use records::{Class, Random};
 use std::process::ExitCode;
 
 const CALLS: Comparison = Comparison {
@@ -62,7 +63,7 @@ fn compare_all(run: &Run) -> Result<Vec<String>, String> {
     counts.print();
     run.print_due_of_limits();
     run.print_due(
-        "of each answer of each call, of words restored, and of the carries of each register",
+        "of each answer of each call, of words restored, of the carries of each register, and of both classes",
     );
     Ok(counts.failures(run))
 }
@@ -89,6 +90,7 @@ fn compare_list(random: &mut Random, run: &Run, counts: &mut Counts) -> Result<(
         counts.calls += 1;
         run.progress(counts.calls);
     }
+    counts.mixed += meters.mixed();
     meters.compare_whole()
 }
 
@@ -117,6 +119,10 @@ struct Counts {
     passed: u64,
     /// Calls that carried from the rest to the whole, of each register.
     carries: [u64; 3],
+    /// Analyses of each class that were accepted, by themselves or in a day file.
+    analyses: [u64; 2],
+    /// Streams on which a list has accepted analyses of both classes.
+    mixed: u64,
 }
 
 impl Counts {
@@ -132,6 +138,8 @@ impl Counts {
             met: 0,
             passed: 0,
             carries: [0; 3],
+            analyses: [0; 2],
+            mixed: 0,
         }
     }
 
@@ -171,6 +179,9 @@ impl Counts {
         for (name, carries) in REGISTERS.iter().zip(self.carries) {
             println!("{name}: rest carried to the whole {carries} times");
         }
+        let [outside, in_class] = self.analyses;
+        println!("accepted analyses, those in day files too: {outside} outside the hydrogen class, {in_class} in it");
+        println!("both classes on one stream of a list: {} times", self.mixed);
     }
 
     /// What occurs less often than due, and what a call cannot give.
@@ -182,6 +193,12 @@ impl Counts {
             ("list with the tally", self.sampled, run.due_of_limits()),
             ("greatest total met", self.met, run.due_of_limits()),
             ("greatest total passed", self.passed, run.due_of_limits()),
+            (
+                "analysis in the hydrogen class",
+                self.analyses[1],
+                run.due(),
+            ),
+            ("both classes on one stream", self.mixed, run.due()),
         ]
         .into_iter()
         .chain(carries.map(|(name, count)| (name, count, run.due())))
@@ -199,6 +216,8 @@ struct Meters {
     proved: loonstool::Meter,
     plain: Meter,
     tally: Option<Tally>,
+    /// Whether an analysis of each class was accepted, for each stream.
+    classes: [[bool; 2]; STREAMS],
 }
 
 impl Meters {
@@ -207,6 +226,7 @@ impl Meters {
             proved: loonstool::Meter::new(),
             plain: Meter::fresh(),
             tally: with_tally.then(Tally::fresh),
+            classes: [[false; 2]; STREAMS],
         }
     }
 
@@ -250,10 +270,35 @@ impl Meters {
         counts.book_carries(rests, self.rests(call.stream));
         let mut words = before;
         if answer.accepts() {
+            self.book_classes(call, counts);
             words[call.stream] = row_of(&self.plain.streams[call.stream]);
         }
         let what = || format!("{}\nwords before: {before:?}", shown(call));
         same(&words, self.proved.words(), what)
+    }
+
+    /// Books the analyses that an accepted call has put in force: those with the stream's pair.
+    fn book_classes(&mut self, call: &Call, counts: &mut Counts) {
+        let pair = self.plain.streams[call.stream].in_force.map(|gas| gas.pair);
+        let records = match call.kind {
+            b'a' => vec![&call.record[..]],
+            b'd' => blocks(&call.file).unwrap_or_default(),
+            _ => vec![],
+        };
+        for record in records {
+            let read = plain::read(record).ok();
+            if read.is_some_and(|read| pair == Some((read.combustion, read.metering))) {
+                let class = Class::of_record(record) as usize;
+                counts.analyses[class] += 1;
+                self.classes[call.stream][class] = true;
+            }
+        }
+    }
+
+    /// The streams on which analyses of both classes were accepted.
+    fn mixed(&self) -> u64 {
+        let mixed = self.classes.iter().filter(|classes| **classes == [true; 2]);
+        mixed.count() as u64
     }
 
     /// Goes on with a meter of the same words.

@@ -1,14 +1,17 @@
-//! Document 01's cases K1 to K9, further gases, the inferior energy and the mass
-//! of K9, K9 in a day file, values per kilogram, and each refusal number of a
-//! record, the writer and a day file, on the library and the plain version; K10 on
-//! the plain version.
+//! Document 01's cases K1 to K9, further gases, the hydrogen class, the inferior
+//! energy and the mass of K9, K9 in a day file, values per kilogram, and each
+//! refusal number of a record, the writer and a day file, on the library and the
+//! plain version; K10 on the plain version.
 
 mod calls;
 mod cases;
 mod plain;
 
 use calls::{analysis, call, day, Answer, Call, Reading, TakesCalls};
-use cases::{methane_and, record, HALF_GAS, K1, K1_PROPERTIES, K2};
+use cases::{
+    hydrogen_and, methane_and, record, HALF_BELOW_ZERO, HALF_GAS, HYDROGEN, K1, K1_PROPERTIES, K2,
+    PAIRS, WATER,
+};
 use loonstool::{Analysis, Counts, Next, PerKilogram, Properties, Refusal};
 use plain::conditions::Conditions;
 use plain::day_file;
@@ -126,7 +129,7 @@ fn written_again(record: &[u8], read: &Analysis) {
 fn gases_written_and_read_again() {
     let further = cases::further().into_iter().map(|(_, gas)| gas);
     let gases = cases::of_paper().into_iter().chain(cases::on_limits());
-    for gas in gases.chain(further) {
+    for gas in gases.chain(cases::in_class()).chain(further) {
         let (lines, fractions): (Vec<u8>, Vec<u32>) = gas.entries.iter().copied().unzip();
         let mut out = [170; 300];
         let answer = write(gas.pair.0, gas.pair.1, &lines, &fractions, &mut out);
@@ -141,6 +144,91 @@ fn gases_written_and_read_again() {
             assert_eq!(read.fractions[..read.count], fractions);
         }
     }
+}
+
+/// Hydrogen alone answers at each pair, with S below 0.
+#[test]
+fn hydrogen_alone() {
+    let entries = hydrogen_and(&[]);
+    for (combustion, metering) in PAIRS {
+        let conditions = Conditions::of(combustion, metering).unwrap();
+        let record = record(combustion, metering, &entries);
+        let s9 = sum(conditions.factor, &entries) / 10;
+        assert!(s9 < 0);
+        assert_eq!(properties_of(&record).unwrap().z, z_of(s9));
+        let [h, m] = [conditions.superior, MASS].map(|column| TABLE[40][column] as u64);
+        let values = per_kilogram(&record).unwrap();
+        assert_eq!(values.superior, nearest(1_000_000 * h, m));
+    }
+}
+
+/// S/10 ends in .5 below 0 and goes upward, towards 0; the other way Z is another.
+#[test]
+fn half_below_zero() {
+    let factor = Conditions::of(15, 15).unwrap().factor;
+    assert_eq!(sum(factor, &HALF_BELOW_ZERO), -47_845_065);
+    let six = properties_of(&record(15, 15, &HALF_BELOW_ZERO)).unwrap();
+    assert_eq!(six.z, z_of(-4_784_506));
+    assert_ne!(six.z, z_of(-4_784_507));
+}
+
+/// Z by the rounded S/10.
+fn z_of(s9: i64) -> u64 {
+    let giga = 1_000_000_000;
+    nearest(giga * giga - s9.unsigned_abs().pow(2), giga)
+}
+
+/// The whole number nearest to n / q, halves upward.
+fn nearest(n: u64, q: u64) -> u64 {
+    (2 * n + q) / (2 * q)
+}
+
+/// The sum of fraction times column.
+fn sum(column: usize, entries: &[(u8, u32)]) -> i64 {
+    let number = |line: u8| TABLE[usize::from(line) - 1][column];
+    let term = |(line, x): &(u8, u32)| i64::from(number(*line)) * i64::from(*x);
+    entries.iter().map(term).sum()
+}
+
+/// The number by which a record at 15/15 is refused, 0 where it is accepted.
+fn number_at_15(entries: &[(u8, u32)]) -> u8 {
+    number_of(&properties_of(&record(15, 15, entries)))
+}
+
+/// In the hydrogen class each line on its limit and one past it.
+#[test]
+fn lines_in_hydrogen_class() {
+    for line in (1..=55).filter(|line| *line != HYDROGEN) {
+        let (limit, own) = match line {
+            WATER => (200, 12),
+            _ => (50_000, 11),
+        };
+        let numbers = [limit, limit + 1].map(|x| number_at_15(&hydrogen_and(&[(line, x)])));
+        assert_eq!(numbers, [0, own], "line {line}");
+    }
+}
+
+/// A record is of the hydrogen class just where it has hydrogen at 900,000 or more;
+/// with less its limits are those of document 01.
+#[test]
+fn at_hydrogen_class() {
+    for (number, methane, hydrogen) in [
+        (0, 950_000, 50_000),
+        (11, 949_999, 50_001),
+        (11, 500_000, 500_000),
+        (10, 499_999, 500_001),
+        (10, 50_000, 899_999),
+        (11, 500_000, 899_999),
+        (11, 500_000, 900_000),
+        (11, 100_000, 900_000),
+        (9, 50_000, 900_000),
+        (0, 50_000, 950_000),
+    ] {
+        let entries = [(1, methane), (HYDROGEN, hydrogen)];
+        assert_eq!(number_at_15(&entries), number, "{entries:?}");
+    }
+    assert_eq!(number_at_15(&[(HYDROGEN, 900_000), (2, 50_001)]), 7);
+    assert_eq!(number_at_15(&[(HYDROGEN, 1_000_000), (WATER, 0)]), 8);
 }
 
 /// The plain meter, the tally and the library's meter.
@@ -302,7 +390,7 @@ fn methane_per_kilogram() {
         let column = Conditions::of(combustion, metering).unwrap().superior;
         let [superior, inferior] = [column, column + 1].map(|column| {
             let [h, m] = [column, MASS].map(|column| TABLE[0][column] as u64);
-            (2 * 1_000_000 * h + m) / (2 * m)
+            nearest(1_000_000 * h, m)
         });
         let values = per_kilogram(&record(combustion, metering, &methane_and(&[])));
         assert_eq!(values, Ok(PerKilogram { superior, inferior }));
@@ -313,16 +401,11 @@ fn methane_per_kilogram() {
 /// Hm × 1,000,000 / M ends in .5, and goes upward.
 #[test]
 fn half_per_kilogram() {
-    let sum = |column: usize| -> i64 {
-        let number = |line: u8| TABLE[usize::from(line) - 1][column];
-        let term = |(line, x)| i64::from(number(line)) * i64::from(x);
-        HALF_GAS.map(term).iter().sum()
-    };
-    let hm = sum(Conditions::of(15, 15).unwrap().superior);
+    let hm = sum(Conditions::of(15, 15).unwrap().superior, &HALF_GAS);
     let values = per_kilogram(&record(15, 15, &HALF_GAS)).unwrap();
     assert_eq!(
         2 * 1_000_000 * hm,
-        (2 * values.superior as i64 - 1) * sum(MASS)
+        (2 * values.superior as i64 - 1) * sum(MASS, &HALF_GAS)
     );
 }
 

@@ -9,7 +9,7 @@ mod plain;
 mod records;
 
 use calls::{analysis, call, day, Answer, Call, TakesCalls};
-use cases::{every_line, record, K1, K2};
+use cases::{every_line, hydrogen_and, record, K1, K2, PAIRS};
 use loonstool::{Meter, NotAMeter, Properties, Words, STREAMS, STREAM_WORDS};
 use plain::conditions::Conditions;
 use plain::day_file::file_of;
@@ -18,24 +18,22 @@ use plain::meter::{
 };
 use plain::properties::{air_density, by_air, index};
 use plain::words::{hold_a_meter, meter_of, words_of};
-use records::{Random, PAIRS};
+use records::Random;
 
 const SEED: u64 = 6976;
 
-/// Meters as their calls left them: fresh; with analyses, one of each pair; metered; full.
+/// Meters as their calls left them: fresh; with analyses, one of each pair, hydrogen alone, and every line; metered; full.
 fn meters() -> [Meter; 4] {
     let fresh = Meter::new();
     let mut analysed = fresh.clone();
-    for (stream, (combustion, metering)) in PAIRS.into_iter().enumerate() {
-        take(
-            &mut analysed,
-            &analysis(stream, "", &record(combustion, metering, &K1)),
-        );
+    let k1 = PAIRS.map(|(combustion, metering)| record(combustion, metering, &K1));
+    let others = [
+        (14, record(25, 20, &hydrogen_and(&[]))),
+        (15, record(0, 0, &every_line())),
+    ];
+    for (stream, record) in k1.into_iter().enumerate().chain(others) {
+        take(&mut analysed, &analysis(stream, "", &record));
     }
-    take(
-        &mut analysed,
-        &analysis(15, "", &record(0, 0, &every_line())),
-    );
     let mut metered = analysed.clone();
     for (stream, volume) in [
         (0, 0),
@@ -43,6 +41,7 @@ fn meters() -> [Meter; 4] {
         (2, 27),
         (3, 1_000),
         (4, 9_999_999),
+        (14, 1_001),
         (15, GREATEST_VOLUME),
     ] {
         take(&mut metered, &call(b'm', stream, volume));

@@ -11,8 +11,9 @@ mod plain;
 mod records;
 mod root_search;
 
+use records::Class;
 use root_search::{
-    densities_of_hydrogen, densities_of_natural_gases, density_of_k1, first_candidate,
+    densities_in_hydrogen_class, densities_of_natural_gases, density_of_k1, first_candidate,
     integer_root, radicand, search, try_candidate,
 };
 
@@ -26,8 +27,14 @@ const MOST_OF_DENSITIES: usize = 6;
 const DENSITIES: std::ops::RangeInclusive<u64> = 6_200_000..=390_000_000;
 
 fn main() {
-    let [least, greatest] = [extremes::least(), extremes::greatest()];
-    println!("least and greatest d of an accepted record: {least}, {greatest}");
+    let of_classes = Class::BOTH.map(|class| {
+        let [least, greatest] = extremes::of_class(class);
+        println!(
+            "least and greatest d of an accepted record{}: {least}, {greatest}",
+            class.name()
+        );
+        [least, greatest]
+    });
     println!(
         "{:<50} {:>7} {:>6} {:>5}   first at n",
         "arguments n", "number", "mean", "most"
@@ -36,12 +43,16 @@ fn main() {
     let of_densities = [
         ("d of K1", vec![density_of_k1()]),
         ("d of natural gases", densities_of_natural_gases()),
+        ("d in the hydrogen class", densities_in_hydrogen_class()),
         (
             "least and greatest d of an accepted record",
-            vec![least, greatest],
+            of_classes.concat(),
         ),
         ("d from 0.062 to 3.9", across),
-        ("d of hydrogen, 0.062 to 0.12", densities_of_hydrogen()),
+        (
+            "d from 0.062 to 0.12",
+            (6_200_000..=12_000_000).step_by(100).collect(),
+        ),
     ];
     let last = u64::MAX - 1_000..=u64::MAX;
     let others = [

@@ -3,7 +3,7 @@
 // Each program that includes this module uses a part of it.
 #![allow(dead_code)]
 
-use crate::cases::{methane_and, record, K2};
+use crate::cases::{hydrogen_and, methane_and, record, K1, K2};
 use crate::plain::{Meter, Tally};
 use loonstool::{Counts, Refusal, Totals};
 
@@ -132,7 +132,8 @@ impl TakesCalls for loonstool::Meter {
 
 /// Lists of calls, each from a fresh meter: K9; each of 13 to 18, some where a later condition of the order holds too; 9, and 11 where 9
 /// holds too; the carry from the rest to the whole MJ, of the superior energy and then of the inferior one, and from the rest to the
-/// whole kg; two gases on one stream; and a stream that is full.
+/// whole kg; two gases on one stream; a stream that is full; and K1 and hydrogen on one stream, with 11 in the hydrogen class and 10 one
+/// below it.
 #[rustfmt::skip]
 pub fn lists() -> Vec<Vec<Call>> {
     let (m, r) = (|k, volume| call(b'm', k, volume), |k| call(b'r', k, 0));
@@ -141,6 +142,10 @@ pub fn lists() -> Vec<Vec<Call>> {
     let little = |k| analysis(k, " 0/0, methane 999,899", &record(0, 0, &[(1, 999_899)]));
     let nitrogen = |k| analysis(k, " nitrogen 300,000", &record(15, 15, &methane_and(&[(52, 300_000)])));
     let above = |k| analysis(k, " nitrogen 400,000", &record(15, 15, &[(1, 924_700), (52, 400_000)]));
+    let k1 = |k| analysis(k, " K1", &record(15, 15, &K1));
+    let hydrogen = |k| analysis(k, " hydrogen", &record(15, 15, &hydrogen_and(&[])));
+    let methane_above = |k| analysis(k, " methane 50,001 with hydrogen", &record(15, 15, &hydrogen_and(&[(1, 50_001)])));
+    let below = |k| analysis(k, " hydrogen 899,999", &record(15, 15, &hydrogen_and(&[(1, 50_000), (52, 50_001)])));
     vec![
         vec![m(0, 1_000), k2(0), m(0, 1_000), r(0)],
         vec![analysis(16, " no record", &[]), m(16, 10_000_001), r(usize::MAX)],
@@ -148,6 +153,7 @@ pub fn lists() -> Vec<Vec<Call>> {
         vec![k2(3), at_0(3), little(3), above(3), at_0(4), m(3, 27), m(4, 27), r(3), r(4)],
         vec![k2(7), m(7, 26), r(7), nitrogen(7), m(7, 1), r(7), m(7, 4), r(7), m(7, 1_176), r(7), m(7, 1), r(7)],
         vec![k2(9), call(b'f', 9, 0), r(9), m(9, 10_000_000), m(9, 9_999_999), m(9, 1), m(9, 10_000_001), m(9, 0), r(9)],
+        vec![k1(12), m(12, 600), hydrogen(12), m(12, 400), r(12), methane_above(12), below(12), m(12, 24), r(12)],
     ]
 }
 

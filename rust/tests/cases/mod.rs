@@ -3,6 +3,10 @@
 // Each program that includes this module uses a part of it.
 #![allow(dead_code)]
 
+pub const METHANE: u8 = 1;
+pub const HYDROGEN: u8 = 41;
+pub const WATER: u8 = 42;
+
 /// Line numbers and fractions of K1, the gas of annex D.
 #[rustfmt::skip]
 pub const K1: [(u8, u32); 8] =
@@ -11,6 +15,9 @@ pub const K1: [(u8, u32); 8] =
 /// Z, Hs, Hi, rho, d and W of K1 at 15/15.
 #[rustfmt::skip]
 pub const K1_PROPERTIES: [u64; 6] = [997_709_976, 38_959_473, 35_144_879, 74_087_496, 60_459_367, 50_105_024];
+
+/// The permitted pairs, combustion and metering in °C.
+pub const PAIRS: [(u8, u8); 6] = [(15, 15), (0, 0), (15, 0), (25, 0), (20, 20), (25, 20)];
 
 /// The record of K2.
 pub const K2: [u8; 13] = [
@@ -28,16 +35,41 @@ pub fn record(combustion: u8, metering: u8, entries: &[(u8, u32)]) -> Vec<u8> {
     bytes
 }
 
+/// A line up to 1,000,000, and other lines with their fractions.
+fn filled_by(line: u8, others: &[(u8, u32)]) -> Vec<(u8, u32)> {
+    let rest: u32 = others.iter().map(|(_, fraction)| fraction).sum();
+    let mut entries = [&[(line, 1_000_000 - rest)], others].concat();
+    entries.sort_unstable();
+    entries
+}
+
 /// Methane up to 1,000,000, and other lines with their fractions.
 pub fn methane_and(others: &[(u8, u32)]) -> Vec<(u8, u32)> {
-    let rest: u32 = others.iter().map(|(_, fraction)| fraction).sum();
-    [&[(1, 1_000_000 - rest)], others].concat()
+    filled_by(METHANE, others)
+}
+
+/// Hydrogen up to 1,000,000, and other lines with their fractions.
+pub fn hydrogen_and(others: &[(u8, u32)]) -> Vec<(u8, u32)> {
+    filled_by(HYDROGEN, others)
+}
+
+/// Every line: water 200, the others but one 500 each.
+fn every_line_filled_by(line: u8) -> Vec<(u8, u32)> {
+    let others: Vec<_> = (1..=55)
+        .filter(|other| *other != line)
+        .map(|other| (other, if other == WATER { 200 } else { 500 }))
+        .collect();
+    filled_by(line, &others)
 }
 
 /// Every line: water 200, the others but methane 500 each.
 pub fn every_line() -> Vec<(u8, u32)> {
-    let others = (2..=55).map(|line| (line, if line == 42 { 200 } else { 500 }));
-    methane_and(&others.collect::<Vec<_>>())
+    every_line_filled_by(METHANE)
+}
+
+/// Every line: water 200, the others but hydrogen 500 each.
+pub fn every_line_in_class() -> Vec<(u8, u32)> {
+    every_line_filled_by(HYDROGEN)
 }
 
 /// A gas: a title, the pair of temperatures in °C, the entries, and the number that refuses its record, 0 where it is accepted.
@@ -131,10 +163,36 @@ pub fn on_limits() -> Vec<Gas> {
     ]
 }
 
+/// The gases of `class_cases` in crates/records/specs/Cases.antt: the limits of the hydrogen class, and its numbers beside one another.
+#[rustfmt::skip]
+pub fn in_class() -> Vec<Gas> {
+    let title = |of: &str| format!("hydrogen class, {of}");
+    let gas = |of: &str, number, entries: &[_]| Gas::new(&title(of), (15, 15), entries.to_vec(), number);
+    let alone = |number, fraction| gas(&format!("hydrogen {fraction} alone"), number, &[(41, fraction)]);
+    vec![
+        gas("three lines on their limits", 0, &[(1, 50_000), (41, 900_000), (52, 50_000)]),
+        gas("methane 50,001", 11, &[(1, 50_001), (41, 900_000), (52, 49_999)]),
+        gas("hydrogen 899,999", 10, &[(1, 50_000), (41, 899_999), (52, 50_001)]),
+        alone(0, 1_000_000),
+        alone(0, 999_900),
+        alone(0, 1_000_100),
+        alone(9, 999_899),
+        alone(9, 1_000_101),
+        alone(9, 900_000),
+        gas("water 200", 0, &[(41, 999_800), (42, 200)]),
+        gas("water 201", 12, &[(41, 999_799), (42, 201)]),
+        gas("11 and 12", 11, &[(41, 949_798), (42, 201), (52, 50_001)]),
+        gas("9 and 12", 12, &[(41, 999_900), (42, 201)]),
+        gas("methane 100,000", 11, &[(1, 100_000), (41, 900_000)]),
+        gas("methane 500,000", 11, &[(1, 500_000), (41, 900_000)]),
+        alone(9, u32::MAX),
+    ]
+}
+
 /// A gas with its title, its name in crates/properties/specs/Cases.antt, its pair and its entries.
 type Named = (&'static str, &'static str, (u8, u8), Vec<(u8, u32)>);
 
-fn gases_of(named: Vec<Named>) -> Vec<(&'static str, Gas)> {
+fn gases_of(named: impl IntoIterator<Item = Named>) -> Vec<(&'static str, Gas)> {
     named
         .into_iter()
         .map(|(title, name, pair, entries)| {
@@ -148,9 +206,37 @@ fn annex_d(pair: (u8, u8)) -> Named {
     ("annex D", "annex_d", pair, K1.to_vec())
 }
 
-fn hydrogen(pair: (u8, u8)) -> Named {
+fn hydrogen_50000(pair: (u8, u8)) -> Named {
     let entries = methane_and(&[(41, 50_000)]);
-    ("hydrogen", "hydrogen", pair, entries)
+    ("hydrogen 50,000", "hydrogen_50000", pair, entries)
+}
+
+fn hydrogen_1000000(pair: (u8, u8)) -> Named {
+    ("hydrogen", "hydrogen_1000000", pair, hydrogen_and(&[]))
+}
+
+/// Hydrogen with methane and nitrogen, all three on their limits.
+fn hydrogen_900000() -> Named {
+    let entries = hydrogen_and(&[(1, 50_000), (52, 50_000)]);
+    ("hydrogen 900,000", "hydrogen_900000", (15, 15), entries)
+}
+
+fn half_below_zero() -> Named {
+    let entries = HALF_BELOW_ZERO.to_vec();
+    ("half below zero", "half_below_zero", (15, 15), entries)
+}
+
+/// Methane and hydrogen: at 15 °C S/10 is -4,784,506.5, and each rounding gives another Z.
+pub const HALF_BELOW_ZERO: [(u8, u32); 2] = [(1, 313), (41, 999_687)];
+
+fn all_lines_in_class() -> Named {
+    let title = "hydrogen, every line";
+    (
+        title,
+        "hydrogen_every_line",
+        (25, 20),
+        every_line_in_class(),
+    )
 }
 
 /// The least methane with ten heavy lines.
@@ -167,19 +253,29 @@ fn all_lines() -> Named {
 pub fn further() -> Vec<(&'static str, Gas)> {
     let at_half = methane_and(&[(4, 14_351), (16, 41_306)]);
     let below_half = methane_and(&[(16, 9_403)]);
-    gases_of(vec![
+    let [least, greatest] = [999_900, 1_000_100].map(|fraction| vec![(41, fraction)]);
+    let outside = [
         annex_d((0, 0)),
         annex_d((15, 0)),
         annex_d((25, 0)),
         annex_d((20, 20)),
         annex_d((25, 20)),
-        hydrogen((15, 15)),
-        hydrogen((25, 0)),
+        hydrogen_50000((15, 15)),
+        hydrogen_50000((25, 0)),
         heavy(),
         ("at a half", "at_half", (25, 0), at_half),
         ("below a half", "below_half", (15, 15), below_half),
         all_lines(),
-    ])
+    ];
+    let hydrogen = PAIRS.map(hydrogen_1000000);
+    let in_class = [
+        ("hydrogen 999,900", "hydrogen_999900", (15, 15), least),
+        ("hydrogen 1,000,100", "hydrogen_1000100", (15, 15), greatest),
+        hydrogen_900000(),
+        half_below_zero(),
+        all_lines_in_class(),
+    ];
+    gases_of(outside.into_iter().chain(hydrogen).chain(in_class))
 }
 
 /// Methane, ethane and nitrogen: at 15 °C the superior calorific value per kilogram, unrounded, ends in .5.
@@ -189,10 +285,12 @@ pub const HALF_GAS: [(u8, u32); 3] = [(1, 905_709), (2, 60_753), (52, 33_538)];
 #[rustfmt::skip]
 pub fn by_mass() -> Vec<(&'static str, Gas)> {
     let methane = [(25, 0), (20, 20), (15, 15), (0, 0)].map(|pair| ("methane", "methane", pair, methane_and(&[])));
-    let annex_d = [(15, 15), (0, 0), (15, 0), (25, 0), (20, 20), (25, 20)].map(annex_d);
+    let annex_d = PAIRS.map(annex_d);
     let half = ("half a unit", "half_gas", (15, 15), HALF_GAS.to_vec());
-    let others = [hydrogen((15, 15)), heavy(), all_lines(), half];
-    gases_of(methane.into_iter().chain(annex_d).chain(others).collect())
+    let others = [hydrogen_50000((15, 15)), heavy(), all_lines(), half];
+    let hydrogen = [(25, 0), (20, 20), (15, 15), (0, 0)].map(hydrogen_1000000);
+    let in_class = [hydrogen_900000(), all_lines_in_class()];
+    gases_of(methane.into_iter().chain(annex_d).chain(others).chain(hydrogen).chain(in_class))
 }
 
 /// Every record with its title and the number that refuses it, 0 where it is accepted: the gases, K2 at another pair, and bytes that are
@@ -226,6 +324,7 @@ pub fn records() -> Vec<(String, Vec<u8>, u8)> {
     gases
         .chain(of_paper())
         .chain(on_limits())
+        .chain(in_class())
         .map(|gas| (gas.title.clone(), gas.record(), gas.number))
         .chain(others.map(|(title, bytes, number)| (title.to_string(), bytes, number)))
         .collect()

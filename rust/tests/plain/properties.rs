@@ -4,13 +4,19 @@
 //! at most 1,000,100 and every table entry is below 6,850,000, every molar mass
 //! below 1,430,000, so Hm is below 7 × 10^12 and M below 1.44 × 10^12. The
 //! greatest products are Hm × 1,013,250, below 7.1 × 10^18, and
-//! M × 10,132,500, below 1.46 × 10^19; 2^64 is above 1.84 × 10^19. At least
-//! half is methane and every summation factor is below 7,600, so S9 is below
-//! 4.1 × 10^8, Z above 8 × 10^8, d below 7 × 10^8 and d × 10^10 below 7 × 10^18.
+//! M × 10,132,500, below 1.46 × 10^19; 2^64 is above 1.84 × 10^19. Summation
+//! factors are below 7,600, methane's below 500, and hydrogen's alone is below 0,
+//! above -52. At least half is methane, or at least 0.9 hydrogen, so S9 is below
+//! 4.1 × 10^8 and above -5.3 × 10^6, Z above 8 × 10^8, d below 7 × 10^8 and
+//! d × 10^10 below 7 × 10^18.
 //!
 //! No property reaches 10^9 but Z, which may be it: D is above 2.2 × 10^10, so Hs
-//! and Hi are below 4.1 × 10^8 and rho below 8.4 × 10^8; M is above 8 × 10^10, so
-//! the root is above 5 × 10^8 and W below 8.2 × 10^8.
+//! and Hi are below 4.1 × 10^8 and rho below 8.4 × 10^8. Outside the hydrogen
+//! class M is above 8 × 10^10, so the root is above 5 × 10^8 and W below
+//! 8.2 × 10^8. In the class hydrogen's calorific values are below 287,000 and the
+//! other fractions sum to at most 100,100, so Hm is below 10^12 and Hs below
+//! 5.8 × 10^7; M is above 1.8 × 10^10, so d is above 6.2 × 10^6, the root above
+//! 2.4 × 10^8 and W below 2.5 × 10^8.
 
 use super::conditions::Conditions;
 use super::fraction::Fraction;

@@ -11,9 +11,17 @@ const VERSION: u16 = 1;
 
 const METHANE: u8 = 1;
 const ETHANE: u8 = 2;
+const HYDROGEN: u8 = 41;
 const WATER: u8 = 42;
 const NITROGEN: u8 = 52;
 const CARBON_DIOXIDE: u8 = 54;
+
+/// The least fraction of hydrogen in the hydrogen class.
+const LEAST_OF_CLASS: u32 = 900_000;
+
+/// The greatest fraction of a line that has no limit of its own: in the hydrogen
+/// class of each line other than hydrogen and water.
+const OF_OTHERS: u32 = 50_000;
 
 /// A record that met every condition.
 pub struct Checked<'a> {
@@ -116,14 +124,17 @@ fn check_count(count: usize) -> Result<(), u8> {
 
 /// Checks line numbers and fractions: conditions 7 and 8, then 10 to 12, then
 /// 9. A line number that breaks 7 refuses at once; the later conditions hold
-/// over all entries.
+/// over all entries, and so does what decides between the limits of 10 and 11:
+/// whether the record is of the hydrogen class.
 fn check_entries(entries: impl Iterator<Item = (u8, u32)>) -> Result<(), u8> {
     let mut before = 0;
     let mut zero = false;
     let mut sum = 0_u64;
     let mut methane = 0;
+    let mut hydrogen = 0;
     let mut water = 0;
     let mut above = false;
+    let mut above_in_class = false;
     for (line, fraction) in entries {
         if line <= before || usize::from(line) > LINES {
             return Err(7);
@@ -133,17 +144,25 @@ fn check_entries(entries: impl Iterator<Item = (u8, u32)>) -> Result<(), u8> {
         sum += u64::from(fraction);
         match line {
             METHANE => methane = fraction,
+            HYDROGEN => hydrogen = fraction,
             WATER => water = fraction,
-            _ => above |= fraction > limit(line),
+            _ => {
+                above |= fraction > limit(line);
+                above_in_class |= fraction > OF_OTHERS;
+            }
         }
     }
     if zero {
         return Err(8);
     }
-    if methane < 500_000 {
-        return Err(10);
-    }
-    if above {
+    if hydrogen < LEAST_OF_CLASS {
+        if methane < 500_000 {
+            return Err(10);
+        }
+        if above || hydrogen > OF_OTHERS {
+            return Err(11);
+        }
+    } else if above_in_class || methane > OF_OTHERS {
         return Err(11);
     }
     if water > 200 {
@@ -155,11 +174,12 @@ fn check_entries(entries: impl Iterator<Item = (u8, u32)>) -> Result<(), u8> {
     Ok(())
 }
 
-/// The greatest fraction of a line other than methane and water.
+/// The greatest fraction of a line other than methane and water outside the
+/// hydrogen class.
 fn limit(line: u8) -> u32 {
     match line {
         NITROGEN => 300_000,
         ETHANE | CARBON_DIOXIDE => 150_000,
-        _ => 50_000,
+        _ => OF_OTHERS,
     }
 }

@@ -3,8 +3,9 @@
 
 use super::random_volume;
 use crate::calls::{day, Call};
+use crate::cases::PAIRS;
 use crate::plain::day_file::{file_of, starts, HEAD, LENGTH};
-use crate::records::{self, Random, PAIRS};
+use crate::records::{self, Random};
 
 /// The most bytes that a block has.
 pub const LONGEST: usize = 65_535;

@@ -1,30 +1,25 @@
-//! Makes analysis records and writer calls for tests: accepted ones, ones on
-//! and one past each limit, damaged ones, and ones that break several
-//! conditions at once.
+//! Makes analysis records and writer calls for tests, some of the hydrogen class:
+//! accepted ones, ones on and one past each limit, damaged ones, and ones that
+//! break several conditions at once.
 
 // Each test that includes this module uses a part of it.
 #![allow(dead_code, unused_imports)]
 
+mod class;
 mod limits;
 mod random;
 
+pub use class::Class;
 pub use limits::Limits;
 pub use random::Random;
 
+use crate::cases::{HYDROGEN, PAIRS, WATER};
 use std::fmt::Write as _;
 
 const LINES: u8 = 55;
-const METHANE: u8 = 1;
-const WATER: u8 = 42;
-
-/// The permitted pairs, combustion and metering in °C.
-pub const PAIRS: [(u8, u8); 6] = [(15, 15), (0, 0), (15, 0), (25, 0), (20, 20), (25, 20)];
 
 /// Least and greatest permitted sum in ppm.
 pub const SUM: (u32, u32) = (999_900, 1_000_100);
-
-/// Least permitted methane in ppm.
-pub const LEAST_METHANE: u32 = 500_000;
 
 /// A pair and two lists, permitted or not.
 #[derive(Debug, Clone, Default)]
@@ -42,20 +37,10 @@ pub struct WriterCall {
     pub buffer: Vec<u8>,
 }
 
-/// The greatest fraction of a line other than methane.
-pub fn limit(line: u8) -> u32 {
-    match line {
-        2 | 54 => 150_000,
-        WATER => 200,
-        52 => 300_000,
-        _ => 50_000,
-    }
-}
-
 impl Draft {
-    /// A draft with methane first and the given other lines in rising order.
-    fn gas(pair: (u8, u8), methane: u32, mut others: Vec<(u8, u32)>) -> Self {
-        others.push((METHANE, methane));
+    /// A draft with the main line of a class and the given others, in rising order.
+    fn gas(class: Class, pair: (u8, u8), fraction: u32, mut others: Vec<(u8, u32)>) -> Self {
+        others.push((class.main_line(), fraction));
         others.sort_unstable();
         let (lines, fractions) = others.into_iter().unzip();
         Self {
@@ -78,19 +63,32 @@ impl Draft {
         bytes
     }
 
+    /// The class of the record, where its lines are permitted.
+    pub fn class(&self) -> Class {
+        Class::of(
+            self.lines
+                .iter()
+                .copied()
+                .zip(self.fractions.iter().copied()),
+        )
+    }
+
     fn sum(&self) -> u64 {
         self.fractions.iter().map(|x| u64::from(*x)).sum()
     }
 
-    /// Changes methane, where it is the first entry, so that the sum is `sum`
-    /// if methane can make it so.
-    fn balance(&mut self, sum: u32) {
-        if self.lines.first() != Some(&METHANE) {
-            return;
+    /// Changes the main line of a class, where there is one, so that the sum is
+    /// `sum` if that line can make it so.
+    fn balance(&mut self, class: Class, sum: u32) {
+        if let Some(at) = self.place_of(class.main_line()) {
+            let others = self.sum() - u64::from(self.fractions[at]);
+            let fraction = u64::from(sum).saturating_sub(others);
+            self.fractions[at] = fraction as u32;
         }
-        let others = self.sum() - u64::from(self.fractions[0]);
-        let methane = u64::from(sum).saturating_sub(others);
-        self.fractions[0] = methane as u32;
+    }
+
+    fn place_of(&self, line: u8) -> Option<usize> {
+        self.lines.iter().position(|other| *other == line)
     }
 
     /// Puts a line in its place with the given fraction.
@@ -118,11 +116,15 @@ pub fn case(random: &mut Random) -> (Vec<u8>, WriterCall) {
 
 /// A draft with no, one or more conditions broken.
 fn draft(random: &mut Random) -> Draft {
-    let mut draft = match random.below(8) {
-        0 => on_sum(random),
-        1 => on_methane(random),
-        2 => on_limit(random),
-        _ => accepted(random),
+    let class = match random.below(4) {
+        0 => Class::Hydrogen,
+        _ => Class::Other,
+    };
+    let mut draft = match random.below(9) {
+        0 => on_sum(random, class),
+        1 => on_least(random, class),
+        2 | 3 => on_limit(random, class),
+        _ => accepted(random, class),
     };
     let breaks = match random.below(16) {
         0..=7 => 0,
@@ -131,7 +133,7 @@ fn draft(random: &mut Random) -> Draft {
         _ => 3,
     };
     for _ in 0..breaks {
-        break_one(random, &mut draft);
+        break_one(random, class, &mut draft);
     }
     draft
 }
@@ -150,14 +152,14 @@ fn permitted_sum(random: &mut Random) -> u32 {
     }
 }
 
-/// Lines other than methane in random order.
-fn other_lines(random: &mut Random) -> Vec<u8> {
-    let mut lines: Vec<u8> = (2..=LINES).collect();
+/// Lines other than the main one of a class in random order.
+fn other_lines(random: &mut Random, class: Class) -> Vec<u8> {
+    let mut lines: Vec<u8> = class.other_lines().collect();
     random.shuffle(&mut lines);
     lines
 }
 
-/// How many lines other than methane: few, any number, or all.
+/// How many lines other than the main one: few, any number, or all.
 fn other_count(random: &mut Random) -> usize {
     match random.below(8) {
         0 => 0,
@@ -168,13 +170,13 @@ fn other_count(random: &mut Random) -> usize {
 }
 
 /// A draft that breaks no condition.
-fn accepted(random: &mut Random) -> Draft {
+fn accepted(random: &mut Random, class: Class) -> Draft {
     let sum = permitted_sum(random);
     let count = other_count(random);
-    let mut room = sum - LEAST_METHANE - count as u32;
+    let mut room = sum - class.least() - count as u32;
     let mut others = Vec::new();
-    for line in other_lines(random).into_iter().take(count) {
-        let most = (limit(line) - 1).min(room);
+    for line in other_lines(random, class).into_iter().take(count) {
+        let most = (class.limit(line) - 1).min(room);
         let more = match random.below(8) {
             0 => 0,
             1 => most,
@@ -184,42 +186,42 @@ fn accepted(random: &mut Random) -> Draft {
         room -= more;
         others.push((line, 1 + more));
     }
-    let methane = LEAST_METHANE + room;
-    Draft::gas(pair(random), methane, others)
+    Draft::gas(class, pair(random), class.least() + room, others)
 }
 
-/// The sum on a limit or one past it, by methane.
-fn on_sum(random: &mut Random) -> Draft {
-    let mut draft = accepted(random);
+/// The sum on a limit or one past it, by the main line.
+fn on_sum(random: &mut Random, class: Class) -> Draft {
+    let mut draft = accepted(random, class);
     let sums = [SUM.0 - 1, SUM.0, SUM.1, SUM.1 + 1];
-    draft.balance(*random.one_of(&sums));
+    draft.balance(class, *random.one_of(&sums));
     draft
 }
 
-/// Methane on its limit or one below it, other lines filled to their limits.
-fn on_methane(random: &mut Random) -> Draft {
-    let methane = LEAST_METHANE - random.below(2) as u32;
-    let mut rest = permitted_sum(random) - methane;
+/// The main line on its least or one below it, other lines filled to their
+/// limits.
+fn on_least(random: &mut Random, class: Class) -> Draft {
+    let fraction = class.least() - random.below(2) as u32;
+    let mut rest = permitted_sum(random) - fraction;
     let mut others = Vec::new();
-    for line in other_lines(random) {
-        let fraction = limit(line).min(rest);
+    for line in other_lines(random, class) {
+        let fraction = class.limit(line).min(rest);
         if fraction > 0 {
             others.push((line, fraction));
         }
         rest -= fraction;
     }
-    Draft::gas(pair(random), methane, others)
+    Draft::gas(class, pair(random), fraction, others)
 }
 
-/// One line other than methane on its limit or one past it, with no or few
+/// One line other than the main one on its limit or one past it, with no or few
 /// other lines.
-fn on_limit(random: &mut Random) -> Draft {
-    let lines = other_lines(random);
+fn on_limit(random: &mut Random, class: Class) -> Draft {
+    let lines = other_lines(random, class);
     let line = match random.below(6) {
         0 => *random.one_of(&[2, WATER, 52, 54]),
         _ => lines[0],
     };
-    let fraction = limit(line) + random.below(2) as u32;
+    let fraction = class.limit(line) + random.below(2) as u32;
     let count = random.index(4);
     let mut others: Vec<(u8, u32)> = lines[1..=count]
         .iter()
@@ -227,26 +229,27 @@ fn on_limit(random: &mut Random) -> Draft {
         .map(|other| (*other, random.between(1, 200)))
         .collect();
     others.push((line, fraction));
-    let mut draft = Draft::gas(pair(random), 0, others);
-    draft.balance(permitted_sum(random));
+    let mut draft = Draft::gas(class, pair(random), 0, others);
+    draft.balance(class, permitted_sum(random));
     draft
 }
 
 /// Changes a draft so that it probably breaks one condition more.
-fn break_one(random: &mut Random, draft: &mut Draft) {
-    match random.below(12) {
+fn break_one(random: &mut Random, class: Class, draft: &mut Draft) {
+    match random.below(14) {
         0 => break_pair(random, draft),
         1 => break_count(random, draft),
         2 | 3 => break_line(random, draft),
         4 => break_order(random, draft),
-        5 => put_zero(random, draft),
-        6 => break_sum(random, draft),
-        7 => lower_methane(random, draft),
-        8 => pass_limit(random, draft),
-        9 => {
-            draft.put(WATER, 201 + random.small());
-            draft.balance(1_000_000);
+        5 => put_zero(random, class, draft),
+        6 => break_sum(random, class, draft),
+        7 => lower_main(random, class, draft),
+        8 => {
+            let lines = other_lines(random, class);
+            pass_limit(random, class, draft, lines[0]);
         }
+        9 | 10 => pass_limit(random, class, draft, WATER),
+        11 => put_hydrogen(random, draft),
         _ => put_huge(random, draft),
     }
 }
@@ -314,59 +317,69 @@ fn break_order(random: &mut Random, draft: &mut Draft) {
 }
 
 /// Sets a fraction to 0, most often with the sum kept.
-fn put_zero(random: &mut Random, draft: &mut Draft) {
+fn put_zero(random: &mut Random, class: Class, draft: &mut Draft) {
     if draft.lines.is_empty() {
         return;
     }
     let at = random.index(draft.fractions.len());
     draft.fractions[at] = 0;
     if at > 0 && random.below(4) > 0 {
-        draft.balance(1_000_000);
+        draft.balance(class, 1_000_000);
     }
 }
 
 /// Puts the sum just or far outside its range.
-fn break_sum(random: &mut Random, draft: &mut Draft) {
+fn break_sum(random: &mut Random, class: Class, draft: &mut Draft) {
     let sum = match random.below(4) {
         0 => SUM.0 - 1,
         1 => SUM.1 + 1,
         2 => random.between(0, 2_000_000),
         _ => random.word() as u32,
     };
-    draft.balance(sum);
+    draft.balance(class, sum);
 }
 
-/// Takes methane below its limit or out, with the sum kept where another line
-/// can take the difference.
-fn lower_methane(random: &mut Random, draft: &mut Draft) {
-    if draft.lines.first() != Some(&METHANE) {
+/// Takes the main line below its least or out, with the sum kept where another
+/// line can take the difference.
+fn lower_main(random: &mut Random, class: Class, draft: &mut Draft) {
+    let Some(at) = draft.place_of(class.main_line()) else {
         return;
-    }
-    let before = draft.fractions[0];
+    };
+    let before = draft.fractions[at];
     let after = match random.below(4) {
-        0 => LEAST_METHANE - 1,
-        1 => random.between(1, LEAST_METHANE - 1),
+        0 => class.least() - 1,
+        1 => random.between(1, class.least() - 1),
         2 => 1,
         _ => 0,
     };
-    draft.fractions[0] = after;
     let difference = before.saturating_sub(after);
-    if draft.lines.len() > 1 {
-        let at = 1 + random.index(draft.lines.len() - 1);
-        draft.fractions[at] = draft.fractions[at].wrapping_add(difference);
-    }
+    let other = random.index(draft.lines.len());
+    draft.fractions[other] = draft.fractions[other].wrapping_add(difference);
+    draft.fractions[at] = after;
     if after == 0 {
-        draft.lines.remove(0);
-        draft.fractions.remove(0);
+        draft.lines.remove(at);
+        draft.fractions.remove(at);
     }
 }
 
-/// Puts a line other than methane past its limit, with the sum kept.
-fn pass_limit(random: &mut Random, draft: &mut Draft) {
-    let line = random.between(2, u32::from(LINES)) as u8;
-    let past = limit(line) + 1 + random.small();
+/// Puts a line other than the main one past its limit, most often with the sum
+/// kept.
+fn pass_limit(random: &mut Random, class: Class, draft: &mut Draft, line: u8) {
+    let past = class.limit(line) + 1 + random.small();
     draft.put(line, past);
-    draft.balance(1_000_000);
+    if random.below(4) > 0 {
+        draft.balance(class, 1_000_000);
+    }
+}
+
+/// Puts hydrogen on its least in the hydrogen class or one below it, with the sum
+/// kept by methane or not.
+fn put_hydrogen(random: &mut Random, draft: &mut Draft) {
+    let fraction = Class::Hydrogen.least() - random.below(2) as u32;
+    draft.put(HYDROGEN, fraction);
+    if random.below(2) == 0 {
+        draft.balance(Class::Other, 1_000_000);
+    }
 }
 
 /// Puts fractions near 2^32, or two whose sum passes 2^32 by what the sum was
@@ -529,6 +542,14 @@ fn lengthen(random: &mut Random, draft: &mut Draft, least: usize) {
     random.extend(&mut draft.lines, more);
     let length = draft.fractions.len() + more;
     draft.fractions.resize(length, 1);
+}
+
+/// The entries of a record that is long enough for its header.
+fn entries(record: &[u8]) -> impl Iterator<Item = (u8, u32)> + '_ {
+    let (entries, _) = record[8..].as_chunks::<5>();
+    entries
+        .iter()
+        .map(|[line, fraction @ ..]| (*line, u32::from_le_bytes(*fraction)))
 }
 
 /// Bytes in hexadecimal, after their count.

@@ -4,7 +4,8 @@
 // Each program that includes this module uses a part of it.
 #![allow(dead_code)]
 
-use crate::cases::{methane_and, record, K1};
+use crate::cases::{hydrogen_and, methane_and, record, K1};
+use std::hint::black_box;
 
 /// Places in which a search tells its candidates.
 pub const PLACES: usize = 40;
@@ -41,6 +42,20 @@ pub fn search(n: u64) -> (usize, [u32; PLACES]) {
     (rounds as usize, tried)
 }
 
+/// A function that takes the root of a number.
+pub type Root = extern "C" fn(u64) -> u64;
+
+/// Takes the roots of numbers over and over, one after the other: each waits for
+/// the one before, of which all bits above 32 are 0.
+#[inline(never)]
+pub fn one_by_one(root: Root, numbers: &[u64], calls: u32) {
+    let mut last = 0;
+    for n in numbers.iter().cycle().take(calls as usize) {
+        last = root(n + (last >> 32));
+    }
+    black_box(last);
+}
+
 /// The root of n, as the library calculates it.
 pub extern "C" fn integer_root(n: u64) -> u64 {
     // SAFETY: a number alone is passed.
@@ -59,7 +74,7 @@ pub fn density(combustion: u8, metering: u8, entries: &[(u8, u32)]) -> Option<u6
 }
 
 pub fn density_of_k1() -> u64 {
-    density(15, 15, &K1).expect("K1 is accepted")
+    density_at_15(&K1)
 }
 
 /// Those of methane, ethane, nitrogen and carbon dioxide in whole percents, up to
@@ -74,16 +89,39 @@ pub fn densities_of_natural_gases() -> Vec<u64> {
                     continue; // methane too low
                 }
                 let others = [(2, ethane), (52, nitrogen), (54, dioxide)];
-                let present: Vec<_> = others.into_iter().filter(|(_, x)| *x > 0).collect();
-                let d = density(15, 15, &methane_and(&present));
-                densities.push(d.expect("the gas is within the limits"));
+                densities.push(density_at_15(&methane_and(&present(&others))));
             }
         }
     }
     densities
 }
 
-/// Those of hydrogen with little else, 0.062 to 0.12.
-pub fn densities_of_hydrogen() -> Vec<u64> {
-    (6_200_000..=12_000_000).step_by(100).collect()
+/// Those of hydrogen with methane, nitrogen and carbon dioxide in steps of 0.2
+/// percent, up to the limits of the hydrogen class, at 15/15.
+pub fn densities_in_hydrogen_class() -> Vec<u64> {
+    let steps = || (0..=25).map(|step| step * 2_000);
+    let mut densities = Vec::new();
+    for methane in steps() {
+        for nitrogen in steps() {
+            for dioxide in steps() {
+                if methane + nitrogen + dioxide > 100_000 {
+                    continue; // outside the class
+                }
+                let others = [(1, methane), (52, nitrogen), (54, dioxide)];
+                densities.push(density_at_15(&hydrogen_and(&present(&others))));
+            }
+        }
+    }
+    densities
+}
+
+/// The entries that have a fraction.
+fn present(entries: &[(u8, u32)]) -> Vec<(u8, u32)> {
+    let present = entries.iter().filter(|(_, fraction)| *fraction > 0);
+    present.copied().collect()
+}
+
+/// The relative density of an accepted record at 15/15.
+fn density_at_15(entries: &[(u8, u32)]) -> u64 {
+    density(15, 15, entries).expect("the gas is within the limits")
 }
