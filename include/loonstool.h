@@ -1,4 +1,4 @@
-/* Natural gas metering by ISO 6976:1995: the functions of target/staticlib/libloonstool.a, which `tools/build library` writes. They are
+/* Gas metering by ISO 6976:1995: the functions of target/staticlib/libloonstool.a, which `tools/build library` writes. They are
  * a meter of sixteen streams, the properties of an analysis record, its calorific values per kilogram, records read and written, and a
  * day's analyses in one file: its blocks found, and the whole of it metered.
  *
