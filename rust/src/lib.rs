@@ -2,9 +2,9 @@
 //! repository, which also has the format of an analysis record and its limits). The library is for x86-64; what it asks of a program
 //! without an operating system (SSE switched on, `memcpy` and `memset`, 128 bytes below the stack pointer) the header says.
 //!
-//! Gases of two classes are accepted. In the hydrogen class hydrogen (line 41) is at 900,000 ppm or more, water at most 200 and every other
-//! line at most 50,000; 10 refuses none of it. Outside it methane is at least 500,000, nitrogen at most 300,000, ethane and carbon dioxide
-//! 150,000 each, water 200 and every other line 50,000. In both the fractions sum to 999,900 to 1,000,100.
+//! Gases of two classes are accepted. In the hydrogen class hydrogen (line 41) is at 900,000 ppm or more, water at most 200, and every line
+//! but these two at most 50,000. Outside it methane is at least 500,000, nitrogen at most 300,000, ethane and carbon dioxide 150,000 each,
+//! water 200, and every other line but methane 50,000. In both the fractions sum to 999,900 to 1,000,100.
 //!
 //! A [`Meter`] adds up volume, superior energy, inferior energy and mass of sixteen streams, each of which takes gases of both classes:
 //!

@@ -1,6 +1,6 @@
 -- The analysis call, for every meter, stream and record, by another order of a record's conditions: statements on former answers compare
 -- with it.
-use Rattle.std.specs.Prelude.{List, [], ◌∷◌, ◌++◌, ℕ}
+use Rattle.std.specs.Prelude.{List, ◌∷◌, ◌++◌, ℕ}
 use Rattle.records.specs.Order.{Order, first_of, Outcome, decided}
 use Rattle.records.specs.Format.{combustion_in, metering_in}
 use Rattle.meter.specs.declared.Meter.{Meter}

@@ -1,6 +1,7 @@
 -- The gas of every accepted record: its sums and steps within their bounds, its properties between their floors and ceilings and within
 -- their distances, and the same of its values per kilogram.
 use mathlib.Core.Path.{◌≡◌, refl, sym, ap, ◌∙◌}
+use mathlib.Core.Bool.{true, false}
 use mathlib.Core.List.{List}
 use mathlib.Core.Logic.{inl, inr}
 use Prim.Native.Nat.{ℕ, ◌+◌, ◌*◌, ◌^◌, ◌≤◌, ◌<◌}
@@ -233,8 +234,9 @@ module _ (k : Contents) (a : Acceptable k) where
 
   W-within : Indexed (wobbe_distance (in_class k.lines k.fractions)) (W k) (unrounded.Hs k) (unrounded.d k)
   W-within =
-      cond_both (in_class k.lines k.fractions) 40 25 (λ (t : ℕ). Indexed t (W k) (unrounded.Hs k) (unrounded.d k))
-      (λ e. indexed_by 40 (omega (arith, r_low, W-by-r)) (omega arith)) (λ e. indexed_by 25 (omega (arith, r_low, W-by-r)) (omega arith))
+      cond_both (in_class k.lines k.fractions) (wobbe_distance true) (wobbe_distance false) (λ (t : ℕ). Indexed t (W k) (unrounded.Hs k) (unrounded.d k))
+      (λ e. indexed_by (wobbe_distance true) (omega (arith, r_low, W-by-r)) (omega arith))
+      (λ e. indexed_by (wobbe_distance false) (omega (arith, r_low, W-by-r)) (omega arith))
 
   bounded : Bounded (six_of k)
   unfolding Hs Hi

@@ -1,8 +1,10 @@
 -- The cases of document 01 that print properties, further gases, and values per kilogram: lists and tests that compute.
-use Rattle.std.specs.Prelude.{◌≡◌, Bool, true, ◌&&◌, List, [], ◌∷◌, ℕ, eqb, replicate, pos, neg_ℤ}
+use Rattle.std.specs.Prelude.{◌≡◌, Bool, true, ◌&&◌, List, [], ◌∷◌, ℕ, ◌<◌, eqb, replicate, pos, neg_ℤ}
 use Rattle.components.specs.Tests.{all}
+use Rattle.components.specs.Composition.{in_class}
 use Rattle.records.specs.Order.{accepted, decided, mapped}
 use Rattle.records.specs.Format.{Contents, contents, bytes_of}
+use Rattle.records.specs.Calls.{reading_of}
 use Rattle.records.specs.Cases.{same_outcome, annex_d, k2, full_gas, full_class_gas, up_from, limit_cases, class_cases}
 use Rattle.records.specs.Cases as on-record
 use Rattle.properties.specs.Chain.{S, S9, W, Six, properties_of}
@@ -45,8 +47,8 @@ below_half c m = contents c m (1 ∷ 16 ∷ []) (990597 ∷ 9403 ∷ [])
 abbrev every_line : ℕ → ℕ → Contents
 every_line c m = contents c m full_gas.lines full_gas.fractions
 
--- of the hydrogen class: hydrogen alone, with each sum; the least hydrogen, with methane and nitrogen; a gas for which S/10 ends in .5 below
--- 0, where upward is towards 0; every line
+-- of the hydrogen class: hydrogen alone, with each sum; the least hydrogen, with methane and nitrogen; a gas for which S/10 ends in .5
+-- below 0, where upward is towards 0; every line
 abbrev alone : ℕ → ℕ → ℕ → Contents
 alone x c m = contents c m (41 ∷ []) (x ∷ [])
 
@@ -114,7 +116,8 @@ abbrev pub half_gas : ℕ → ℕ → Contents
 half_gas c m = contents c m (1 ∷ 2 ∷ 52 ∷ []) (905709 ∷ 60753 ∷ 33538 ∷ [])
 
 -- Gases and their values per kilogram: methane at each combustion temperature, at 15 °C as document 02 prints it; the gas of annex D at
--- every permitted pair; three of the gases above; a gas on a half; gases of the hydrogen class. `cargo run --example expected -- kilograms` in rust/ prints the rows.
+-- every permitted pair; three of the gases above; a gas on a half; gases of the hydrogen class. `cargo run --example expected -- kilograms` in
+-- rust/ prints the rows.
 abbrev pub per_kilogram_gases : List (Contents × MassBasis)
 per_kilogram_gases =
     (methane 25 0, per 5551518 5002805)
@@ -142,21 +145,31 @@ per_kilogram_gases =
 abbrev pub PerKilogramGasesHold : Type 0
 PerKilogramGasesHold = all (λ (c : Contents × MassBasis). same_outcome same_per_kilogram (per_kilogram_of (bytes_of c.0)) (accepted c.1)) per_kilogram_gases ≡ true
 
--- S9 of that gas, S being -47,845,065
-abbrev pub HalfBelowZero : Type 0
-HalfBelowZero = (S (half_below_zero 15 15) ≡ neg_ℤ (pos 47845065)) × (S9 (half_below_zero 15 15) ≡ neg_ℤ (pos 4784506))
+-- S and S9 below 0: of that gas, and of one for which S/10 ends in .7, where the nearest number is the one below
+abbrev past_half : Contents
+past_half = contents 15 15 (41 ∷ 52 ∷ []) (999997 ∷ 3 ∷ [])
 
--- a gas of the hydrogen class whose W is 7.39 J/m³ from the formula: 7 would not do for the distance of its class
-abbrev far_index : Contents
+pub record BelowZero : Type 0 where
+  pub half : (S (half_below_zero 15 15) ≡ neg_ℤ (pos 47845065)) × (S9 (half_below_zero 15 15) ≡ neg_ℤ (pos 4784506))
+  pub past : (S past_half ≡ neg_ℤ (pos 47999337)) × (S9 past_half ≡ neg_ℤ (pos 4799934))
+
+-- an accepted gas of the hydrogen class, whose W is more than 7 from the formula
+abbrev pub far_index : Contents
 far_index = contents 0 0 (20 ∷ 41 ∷ []) (1155 ∷ 998945 ∷ [])
 
-abbrev pub NotWithinSeven : Type 0
-NotWithinSeven = Indexed 7 (W far_index) (unrounded.Hs far_index) (unrounded.d far_index) → ⊥
+-- so no distance up to 7 is that of every accepted record of the class
+abbrev pub AboveSeven : Type 0
+AboveSeven =
+    (t : ℕ) →
+    ((bs : List ℕ) (k : Contents) → reading_of bs ≡ accepted k → in_class k.lines k.fractions ≡ true → Indexed t (W k) (unrounded.Hs k) (unrounded.d k)) →
+    7 < t
 
--- the properties and the values per kilogram of each of `limit_cases` and `class_cases` that is refused are refused by its number, and the
--- others are answered
+-- the properties and the values per kilogram of each of `limit_cases` and `class_cases` are refused by its number, or answered where it is
+-- accepted
 abbrev pub number_gives : on-record.Case → Bool
-number_gives c = same_outcome (λ (p q : Six). true) (properties_of c.bytes) (decided c.number (six 0 0 0 0 0 0)) && same_outcome (λ (v w : MassBasis). true) (per_kilogram_of c.bytes) (decided c.number (per 0 0))
+number_gives c =
+    same_outcome (λ (p q : Six). true) (properties_of c.bytes) (decided c.number (six 0 0 0 0 0 0))
+    && same_outcome (λ (v w : MassBasis). true) (per_kilogram_of c.bytes) (decided c.number (per 0 0))
 
 abbrev pub LimitsAnswered : Type 0
 LimitsAnswered = (all number_gives limit_cases && all number_gives class_cases) ≡ true

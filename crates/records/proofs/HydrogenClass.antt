@@ -13,7 +13,8 @@ use Rattle.components.specs.Composition.{hydrogen, least_hydrogen, in_class, fra
 use Rattle.records.specs.Order.{Order, first_of, refused, decided}
 use Rattle.records.specs.Format.{lines_in, fractions_in, contents_in, bytes_of, placed}
 use Rattle.records.specs.Conditions.{ethane, water, nitrogen, carbon_dioxide, limit_of, any_above, content_order, head_order, record_order, start_order, room_order, writer_order}
-use Rattle.records.specs.HydrogenClass.{former_limit_of, former_above_limit, former_any_above, former_content_order, former_record_order, former_writer_order, record_in_class, ReadingStays, WritingStays, AlwaysRefused, AlwaysRefusedWriting, AcceptedReadingStays, AcceptedWritingStays, NoTenInClass, NoTenInClassWriting}
+use Rattle.records.specs.ByOrder.{writer_order_by}
+use Rattle.records.specs.HydrogenClass.{former_limit_of, former_above_limit, former_any_above, classless_content_order, classless_record_order, record_in_class, ReadingStays, WritingStays, AlwaysRefused, AlwaysRefusedWriting, AcceptedReadingStays, AcceptedWritingStays, NoTenInClass, NoTenInClassWriting}
 use Rattle.records.proofs.OrderLaws.{unmet, clear_first, clear_second, decided_accepted, decided_refused}
 
 -- the limit of a line is the former one
@@ -40,10 +41,10 @@ same_above [] xs = refl
 same_above (l ∷ ls) [] = refl
 same_above (l ∷ ls) (x ∷ xs) = rw (same_limit l, same_above ls xs) refl
 
-same_content : (ls xs : List ℕ) → in_class ls xs ≡ false → content_order ls xs ≡ former_content_order ls xs
+same_content : (ls xs : List ℕ) → in_class ls xs ≡ false → content_order ls xs ≡ classless_content_order ls xs
 same_content ls xs e = rw (e, same_above ls xs) refl
 
-pub same_record_order : (bs : List ℕ) → record_in_class bs ≡ false → record_order bs ≡ former_record_order bs
+pub same_record_order : (bs : List ℕ) → record_in_class bs ≡ false → record_order bs ≡ classless_record_order bs
 same_record_order bs e = ap (λ (o : Order). head_order bs ++ o) (same_content (lines_in bs) (fractions_in bs) e)
 
 pub reading_stays : ReadingStays
@@ -65,27 +66,27 @@ hydrogen_few (l ∷ ls) (x ∷ xs) e =
     go true is h = let p = (or_parts (former_above_limit l x) (former_any_above ls xs) e).0 in ltb-false 50000 x (rw (is tt) at p)
     go false is h = h
 
-outside : (ls xs : List ℕ) → first_of (former_content_order ls xs) ≡ 0 → in_class ls xs ≡ false
+outside : (ls xs : List ℕ) → first_of (classless_content_order ls xs) ≡ 0 → in_class ls xs ≡ false
 outside ls xs e = go (in_class ls xs) (λ t. leb→le _ _ t)
   where
     few : fraction_for hydrogen ls xs ≤ 50000
-    few = hydrogen_few ls xs (unmet (former_content_order ls xs) tt e 11)
+    few = hydrogen_few ls xs (unmet (classless_content_order ls xs) tt e 11)
 
     go : (class : Bool) → (T class → least_hydrogen ≤ fraction_for hydrogen ls xs) → class ≡ false
     go true is = absurd (omega (arith, is tt, few))
     go false is = refl
 
 -- where no former condition of a record held, it is outside the class
-pub outside_of_clear : (bs : List ℕ) → first_of (former_record_order bs) ≡ 0 → record_in_class bs ≡ false
-outside_of_clear bs e = outside (lines_in bs) (fractions_in bs) (clear_second (head_order bs) (former_content_order (lines_in bs) (fractions_in bs)) tt e)
+pub outside_of_clear : (bs : List ℕ) → first_of (classless_record_order bs) ≡ 0 → record_in_class bs ≡ false
+outside_of_clear bs e = outside (lines_in bs) (fractions_in bs) (clear_second (head_order bs) (classless_content_order (lines_in bs) (fractions_in bs)) tt e)
 
 pub always_refused : AlwaysRefused
-always_refused bs k e = outside_of_clear bs (decided_accepted (first_of (former_record_order bs)) (contents_in bs) k e).0
+always_refused bs k e = outside_of_clear bs (decided_accepted (first_of (classless_record_order bs)) (contents_in bs) k e).0
 
 pub always_refused_writing : AlwaysRefusedWriting
 always_refused_writing k old new e =
-    let d = decided_accepted (first_of (former_writer_order k (length old))) (placed old 0 (bytes_of k)) new e in
-    let o = former_content_order k.lines k.fractions in
+    let d = decided_accepted (first_of (writer_order_by classless_content_order k (length old))) (placed old 0 (bytes_of k)) new e in
+    let o = classless_content_order k.lines k.fractions in
     outside k.lines k.fractions (clear_first o (room_order (length old) (length k.lines)) tt (clear_second (start_order k) (o ++ room_order (length old) (length k.lines)) tt d.0))
 
 pub accepted_reading_stays : AcceptedReadingStays

@@ -8,5 +8,6 @@ pub mod Answers
 pub mod RoundTrips
 pub mod Accepted
 pub mod Cases
+pub mod ByOrder
 pub mod LimitBeforeSum
 pub mod HydrogenClass

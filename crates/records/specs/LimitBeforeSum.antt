@@ -1,11 +1,12 @@
 -- The limits, 10, 11 and 12, are tried before the sum, 9. Compared with the order that tried 9 before them, which stands here for this
 -- comparison alone, only answers of 9 where one of 10 to 12 holds too differ: they are the first of 10 to 12 that holds. Every other
 -- answer is the same, for every record and every call of the writer.
-use Rattle.std.specs.Prelude.{◌≡◌, Bool, true, not, ◌&&◌, cond, List, [], ◌∷◌, ◌++◌, ℕ, eqb, length}
-use Rattle.records.specs.Order.{Order, first_of, numbers_of, condition_of, Outcome, refused, accepted, decided}
-use Rattle.records.specs.Format.{Contents, lines_in, fractions_in, contents_in, bytes_of, placed}
-use Rattle.records.specs.Conditions.{fraction_zero, from_limits, lines_order, head_order, record_order, start_order, room_order, writer_order}
+use Rattle.std.specs.Prelude.{◌≡◌, Bool, true, not, ◌&&◌, cond, List, [], ◌∷◌, ◌++◌, ℕ, eqb}
+use Rattle.records.specs.Order.{Order, first_of, numbers_of, condition_of, Outcome, refused, accepted}
+use Rattle.records.specs.Format.{Contents, lines_in, fractions_in, bytes_of}
+use Rattle.records.specs.Conditions.{fraction_zero, from_limits, lines_order, record_order, writer_order}
 use Rattle.records.specs.Calls.{reading_of, writing_of}
+use Rattle.records.specs.ByOrder.{record_order_by, writer_order_by, reading_by, writing_by}
 use Rattle.records.specs.Cases.{same_contents, same_outcome, nitrogen_high}
 
 -- the former order of the four, from whether each holds
@@ -18,10 +19,10 @@ former_content_order ls xs = lines_order ls ++ ((8, fraction_zero xs) ∷ from_l
 
 -- of a record, and of the writer
 abbrev pub former_record_order : List ℕ → Order
-former_record_order bs = head_order bs ++ former_content_order (lines_in bs) (fractions_in bs)
+former_record_order = record_order_by former_content_order
 
 abbrev pub former_writer_order : Contents → ℕ → Order
-former_writer_order k room = start_order k ++ (former_content_order k.lines k.fractions ++ room_order room (length k.lines))
+former_writer_order = writer_order_by former_content_order
 
 -- these tried the numbers upward, the writer after 19, 4 and 5
 abbrev pub former_content_numbers : List ℕ
@@ -45,10 +46,10 @@ FormerWriterConditions = (k : Contents) (room n : ℕ) → condition_of n (forme
 
 -- what reading a record, and writing contents, gave by them
 abbrev pub former_reading_of : List ℕ → Outcome Contents
-former_reading_of bs = decided (first_of (former_record_order bs)) (contents_in bs)
+former_reading_of = reading_by former_content_order
 
 abbrev pub former_writing_of : Contents → List ℕ → Outcome (List ℕ)
-former_writing_of k old = decided (first_of (former_writer_order k (length old))) (placed old 0 (bytes_of k))
+former_writing_of = writing_by former_content_order
 
 -- the first of 10, 11 and 12 that holds, 0 where none does: from whether each of the four holds, of line numbers and fractions, of a record
 abbrev pub first_limit : Bool → Bool → Bool → Bool → ℕ

@@ -46,7 +46,7 @@ abbrev pub each_number : List on-record.Case → List Case → List Case
 each_number [] more = more
 each_number (c ∷ cs) more = number c ∷ each_number cs more
 
--- the record of each as an analysis on the stream 0 of a fresh meter, refused by its number
+-- the record of each as an analysis on the stream 0 of a fresh meter, refused by its number, or accepted
 abbrev pub each_analysis : List on-record.Case → List Case → List Case
 each_analysis [] more = more
 each_analysis (c ∷ cs) more = calls ((on 0 (analysis c.bytes), decided c.number done) ∷ []) ∷ each_analysis cs more

@@ -3,7 +3,7 @@
 use Rattle.std.specs.Prelude.{◌≡◌, Bool, false, List, [], ◌∷◌}
 use contract.Lifetimes.{Lfts}
 use Rattle.std.specs.Borrow.{MutBor}
-use Rattle.records.specs.HydrogenClass.{former_record_order, record_in_class}
+use Rattle.records.specs.HydrogenClass.{classless_record_order, record_in_class}
 use Rattle.tally.specs.Tally.{Ask, analysis, metering, totals, mean, Call, Answer, Tally, fresh_tally, answers_to, tallied}
 use Rattle.tally.specs.ByOrder.{answers_by, tallied_by}
 use Rattle.meter.specs.declared.Meter.{Meter}
@@ -24,8 +24,8 @@ NoneInClass (c ∷ cs) = (ask_in_class c.ask ≡ false) × NoneInClass cs
 
 -- from any tally, such a list gets its former answers, and leaves the tally that it left
 pub record ListStays (t : Tally) (cs : List Call) : Type 0 where
-  pub answers : answers_to t cs ≡ answers_by former_record_order t cs
-  pub after : tallied t cs ≡ tallied_by former_record_order t cs
+  pub answers : answers_to t cs ≡ answers_by classless_record_order t cs
+  pub after : tallied t cs ≡ tallied_by classless_record_order t cs
 
 abbrev pub EveryListStays : Type 0
 EveryListStays = (t : Tally) (cs : List Call) → NoneInClass cs → ListStays t cs
@@ -34,9 +34,9 @@ EveryListStays = (t : Tally) (cs : List Call) → NoneInClass cs → ListStays t
 -- words that the exported `fresh` has filled
 abbrev pub RunStays : Type 0
 RunStays =
-    (m₀ m : Meter) (cs : List Call) (rs : List Answer) → FreshReturns m₀ → Run m₀ cs rs m → NoneInClass cs → rs ≡ answers_by former_record_order fresh_tally cs
+    (m₀ m : Meter) (cs : List Call) (rs : List Answer) → FreshReturns m₀ → Run m₀ cs rs m → NoneInClass cs → rs ≡ answers_by classless_record_order fresh_tally cs
 
 abbrev pub LentRunStays : Type 0
 LentRunStays =
     (κs : Lfts 1) (old new : MutBor Words) (cs : List Call) (rs : List Answer) (w : Words) → FreshGave κs old new → LentRun new.now cs rs w → NoneInClass cs →
-    rs ≡ answers_by former_record_order fresh_tally cs
+    rs ≡ answers_by classless_record_order fresh_tally cs

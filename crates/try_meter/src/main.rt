@@ -1,6 +1,7 @@
 // Runs the compiled calls of the meter that its input lists and prints what comes back: K9 of document 01, each refusal from 13 to 18,
 // some where a later condition of the order holds too, 9, and 11 where 9 holds too, the carry from the rest to the whole MJ and kg, two
-// gases on one stream, methane and hydrogen on one, with 10 and 11 for hydrogen 899,999 and in the hydrogen class, and a stream that is full.
+// gases on one stream, a natural gas and hydrogen on one, with 10 for hydrogen 899,999 and 11 in the hydrogen class, and a stream that
+// is full.
 //
 // rust/examples/expected.rs prints the input, from the lists of rust/tests/calls. A call is a letter, the lengths of a title and of a
 // record (2 bytes each), a stream and a volume in dm³ (8 bytes each, least significant first), the title, and the record. The letter

@@ -226,7 +226,7 @@ fn half_below_zero() -> Named {
     ("half below zero", "half_below_zero", (15, 15), entries)
 }
 
-/// Methane and hydrogen: at 15 °C S/10 is -4,784,506.5, and each rounding gives another Z.
+/// Methane and hydrogen: at 15 °C S/10 is -4,784,506.5, and rounded away from 0 it gives another Z.
 pub const HALF_BELOW_ZERO: [(u8, u32); 2] = [(1, 313), (41, 999_687)];
 
 fn all_lines_in_class() -> Named {
