@@ -1,6 +1,6 @@
 -- The entry scan over lists: what holds of the entries before an index, and what is left from it on.
-use mathlib.Core.Path.{◌≡◌, sym, ◌∙◌}
-use mathlib.Core.Bool.{Bool, true, false, ◌||◌, cond, or_assoc, or-false}
+use mathlib.Core.Path.{◌≡◌, refl, sym, ap, ◌∙◌}
+use mathlib.Core.Bool.{Bool, true, false, ◌&&◌, ◌||◌, cond, or_assoc, or-false}
 use mathlib.Core.List.{List}
 use mathlib.Core.Logic.{◌⊎◌, inl, inr}
 use Prim.Native.Nat.{ℕ, ◌+◌, ◌*◌, ◌^◌, ◌≤◌, ◌<◌}
@@ -46,7 +46,7 @@ Found line ls xs before noted k =
     ((line ≤ before) × (fraction_for line ls xs ≡ noted)) ⊎ ((noted ≡ 0) × (fraction_for line ls xs ≡ fraction_for line (drop k ls) (drop k xs)))
 
 -- what is noted of the entries before k, none of which has fraction 0, in lists where no line number breaks 7
-pub record Noted (ls xs : List ℕ) (sum of_methane of_hydrogen : ℕ) (outside inside : Bool) (of_water k : ℕ) : Type 0 where
+pub record Noted (ls xs : List ℕ) (sum of_methane : ℕ) (class outside inside : Bool) (of_water k : ℕ) : Type 0 where
   pub within : k ≤ length ls
   pub small : sum ≤ k * 2 ^ 32
   -- the line number of the last of them
@@ -55,7 +55,10 @@ pub record Noted (ls xs : List ℕ) (sum of_methane of_hydrogen : ℕ) (outside 
   pub zeros : fraction_zero xs ≡ fraction_zero (drop k xs)
   pub whole : total xs ≡ sum + total (drop k xs)
   pub methane_found : Found methane ls xs before of_methane k
+  -- hydrogen, of which its class alone is noted
+  pub of_hydrogen : ℕ
   pub hydrogen_found : Found hydrogen ls xs before of_hydrogen k
+  pub class_lem : class ≡ hydrogen_class of_hydrogen
   pub outside_lem : any_above false ls xs ≡ (outside || any_above false (drop k ls) (drop k xs))
   pub inside_lem : any_above true ls xs ≡ (inside || any_above true (drop k ls) (drop k xs))
   pub water_found : Found water ls xs before of_water k
@@ -69,8 +72,15 @@ found_step line l x before noted rest whole true is h (inr (z, e)) = inl (omega 
 found_step line l x before noted rest whole false is h (inl (p, e)) = inl (omega arith, e)
 found_step line l x before noted rest whole false is h (inr (z, e)) = inr (z, e)
 
+-- the class is that of what is noted of hydrogen
+class_step : {A B : Type 0} (l x before h : ℕ) (class is : Bool) → (T is → l ≡ hydrogen) → before < l → ((hydrogen ≤ before) × A) ⊎ ((h ≡ 0) × B)
+    → class ≡ hydrogen_class h → (class || (is && hydrogen_class x)) ≡ hydrogen_class (cond is x h)
+class_step l x before h class true is up (inl f) c = absurd (omega (arith, is tt, f.0))
+class_step l x before h class true is up (inr f) c = rw (c, f.0) refl
+class_step l x before h class false is up f c = rw or-false c
+
 -- at an entry
-module _ {ls xs : List ℕ} {sum of_methane of_hydrogen : ℕ} {outside inside : Bool} {of_water k : ℕ} (n : Noted ls xs sum of_methane of_hydrogen outside inside of_water k) (hl : k < length ls) (hx : k < length xs) where
+module _ {ls xs : List ℕ} {sum of_methane : ℕ} {class outside inside : Bool} {of_water k : ℕ} (n : Noted ls xs sum of_methane class outside inside of_water k) (hl : k < length ls) (hx : k < length xs) where
   abbrev l : ℕ
   l = get_or ls k 0
 
@@ -103,7 +113,7 @@ module _ {ls xs : List ℕ} {sum of_methane of_hydrogen : ℕ} {outside inside :
   above_step class above e = e ∙ rw (add-one, drop-cons ls k 0, drop-cons xs k 0, or_assoc above)
 
   pub next_noted : (x ≡ 0 → ⊥) → x < 2 ^ 32
-      → Noted ls xs (sum + x) (cond (eqb l methane) x of_methane) (cond (eqb l hydrogen) x of_hydrogen) (outside || above_limit false l x) (inside || above_limit true l x) (cond (eqb l water) x of_water) (k + 1)
+      → Noted ls xs (sum + x) (cond (eqb l methane) x of_methane) (class || (eqb l hydrogen && hydrogen_class x)) (outside || above_limit false l x) (inside || above_limit true l x) (cond (eqb l water) x of_water) (k + 1)
   next_noted z w =
       record {
         within = omega arith;
@@ -113,7 +123,9 @@ module _ {ls xs : List ℕ} {sum of_methane of_hydrogen : ℕ} {outside inside :
         zeros = zeros_step ∙ rw (ne_eqb x 0 z);
         whole = omega (arith, n.whole, total_step xs k hx);
         methane_found = found methane of_methane n.methane_found;
-        hydrogen_found = found hydrogen of_hydrogen n.hydrogen_found;
+        of_hydrogen = cond (eqb l hydrogen) x n.of_hydrogen;
+        hydrogen_found = found hydrogen n.of_hydrogen n.hydrogen_found;
+        class_lem = class_step l x n.before n.of_hydrogen class (eqb l hydrogen) (λ t. eqb→eq l hydrogen t) (leb-false _ _ (or_parts _ _ lines_here.0).0) n.hydrogen_found n.class_lem;
         outside_lem = above_step false outside n.outside_lem;
         inside_lem = above_step true inside n.inside_lem;
         water_found = found water of_water n.water_found;
@@ -125,7 +137,7 @@ unfolding fraction_for
 found_all line ls xs before noted k h (inl (p, e)) = e
 found_all line ls xs before noted k h (inr (z, e)) = e ∙ rw (drop_of_length-le ls h, z)
 
-module _ {ls xs : List ℕ} {sum of_methane of_hydrogen : ℕ} {outside inside : Bool} {of_water k : ℕ} (n : Noted ls xs sum of_methane of_hydrogen outside inside of_water k) (hl : length ls ≤ k) (hx : length xs ≤ k) where
+module _ {ls xs : List ℕ} {sum of_methane : ℕ} {class outside inside : Bool} {of_water k : ℕ} (n : Noted ls xs sum of_methane class outside inside of_water k) (hl : length ls ≤ k) (hx : length xs ≤ k) where
   none_left : (class above : Bool) → any_above class ls xs ≡ (above || any_above class (drop k ls) (drop k xs)) → any_above class ls xs ≡ above
   unfolding any_above
   none_left class above e = e ∙ rw (drop_of_length-le ls hl, or-false)
@@ -134,7 +146,7 @@ module _ {ls xs : List ℕ} {sum of_methane of_hydrogen : ℕ} {outside inside :
   above_is true = none_left true inside n.inside_lem
   above_is false = none_left false outside n.outside_lem
 
-  pub all_noted : {r : ℕ} → r ≡ first_of (limits_order (sum_outside sum) (methane_low (hydrogen_class of_hydrogen) of_methane) (cond (hydrogen_class of_hydrogen) inside outside) (water_high (hydrogen_class of_hydrogen) of_water))
+  pub all_noted : {r : ℕ} → r ≡ first_of (limits_order (sum_outside sum) (methane_low class of_methane) (cond class inside outside) (water_high class of_water))
       → r ≡ first_of (fractions_order ls xs)
   unfolding fraction_zero total
   all_noted e =
@@ -142,6 +154,6 @@ module _ {ls xs : List ℕ} {sum of_methane of_hydrogen : ℕ} {outside inside :
       let z : fraction_zero xs ≡ false = n.zeros ∙ rw ex in
       let t : total xs ≡ sum = n.whole ∙ rw (ex, add-zero) in
       let m : fraction_for methane ls xs ≡ of_methane = found_all methane ls xs n.before of_methane k hl n.methane_found in
-      let h : fraction_for hydrogen ls xs ≡ of_hydrogen = found_all hydrogen ls xs n.before of_hydrogen k hl n.hydrogen_found in
+      let c : hydrogen_class (fraction_for hydrogen ls xs) ≡ class = ap hydrogen_class (found_all hydrogen ls xs n.before n.of_hydrogen k hl n.hydrogen_found) ∙ sym n.class_lem in
       let w : fraction_for water ls xs ≡ of_water = found_all water ls xs n.before of_water k hl n.water_found in
-      e ∙ rw (z, t, m, h, w, above_is (hydrogen_class of_hydrogen))
+      e ∙ rw (z, t, m, c, w, above_is class)

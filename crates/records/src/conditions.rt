@@ -1,5 +1,6 @@
 // The conditions of a record's head and of an entry, each with document 01's number.
-ghost use Rattle.std.specs.Prelude.{◌≡◌, true, false};
+ghost use Rattle.std.specs.Prelude.{◌≡◌, ◌&&◌, eqb};
+ghost use Rattle.components.specs.Composition.{hydrogen, hydrogen_class};
 ghost use Rattle.records.specs.Order.{first_of};
 ghost use Rattle.records.specs.Refusals.{number_in};
 ghost use Rattle.records.specs.Conditions.{limit_of, unlimited, count_outside, above_limit, head_order};
@@ -13,7 +14,7 @@ pub const METHANE: u8 = 1;
 
 const ETHANE: u8 = 2;
 
-pub const HYDROGEN: u8 = 41;
+const HYDROGEN: u8 = 41;
 
 pub const WATER: u8 = 42;
 
@@ -22,7 +23,10 @@ const NITROGEN: u8 = 52;
 const CARBON_DIOXIDE: u8 = 54;
 
 // The limit of most lines, and no limit but water's is below it.
-const COMMON_LIMIT: u32 = 50000;
+pub const COMMON_LIMIT: u32 = 50000;
+
+// The least fraction of hydrogen in its class, in ppm.
+const LEAST_HYDROGEN: u32 = 900000;
 
 // 5: n is 0 or above 55.
 pub fn count_outside(n: usize) -> bool
@@ -79,22 +83,15 @@ fn unlimited(class: bool) -> u8
 }
 
 // An entry of a line other than water is above its limit, outside the hydrogen class or in it.
-fn above_limit(class: bool, line: u8, fraction: u32) -> bool
+pub fn above_limit(class: bool, line: u8, fraction: u32) -> bool
     ensures { result ≡ above_limit class line fraction }
 {
     (line != unlimited(class)) & (line != WATER) & (limit_of(class, line) < fraction)
 }
 
-// The same outside the class, and in it.
-pub fn above_limits(line: u8, fraction: u32) -> (bool, bool)
-    ensures { result ≡ (above_limit false line fraction, above_limit true line fraction) }
+// An entry of hydrogen in its class.
+pub fn is_class(line: u8, fraction: u32) -> bool
+    ensures { result ≡ (eqb line hydrogen && hydrogen_class fraction) }
 {
-    // The one branch of the scan: most fractions are below every limit but water's.
-    if fraction <= COMMON_LIMIT {
-        return (false, false);
-    }
-    (
-        above_limit(false, line, fraction),
-        above_limit(true, line, fraction),
-    )
+    (line == HYDROGEN) & (LEAST_HYDROGEN <= fraction)
 }

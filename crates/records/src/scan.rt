@@ -1,6 +1,6 @@
 // The entry scan: 7 in a search over the line numbers, then 8, 10 to 12 and 9 in one over the fractions. The first entry that breaks 7 ends
 // the first search, and the first fraction of 0 the second.
-ghost use Rattle.std.specs.Prelude.{◌≡◌, true, false, ◌||◌, cond, ◌+◌, ◌^◌, ◌≤◌, ◌<◌, eqb, leb, ltb, length};
+ghost use Rattle.std.specs.Prelude.{◌≡◌, true, false, ◌&&◌, ◌||◌, cond, ◌+◌, ◌^◌, ◌≤◌, ◌<◌, eqb, leb, ltb, length};
 ghost use Rattle.records.specs.Order.{first_of};
 ghost use Rattle.records.specs.Refusals.{number_in};
 ghost use Rattle.components.specs.Composition.{methane, hydrogen, hydrogen_class};
@@ -10,23 +10,21 @@ use super::conditions;
 use super::entries::Entries;
 use super::refusal::Refusal;
 
-// The range of the sum of the fractions, and the least fraction of methane, and of hydrogen in its class, in ppm.
+// The range of the sum of the fractions, and the least fraction of methane, in ppm.
 const LEAST_SUM: u64 = 999900;
 
 const MOST_SUM: u64 = 1000100;
 
 const LEAST_METHANE: u32 = 500000;
 
-const LEAST_HYDROGEN: u32 = 900000;
-
-// What 10 to 12 and 9 need of the entries so far, whether the gas is in the hydrogen class or not, which shows after the last of them: the
-// sum of the fractions, the fractions of methane, hydrogen and water, 0 where absent as document 01 has it, and whether another line is
-// above its limit, outside the class and in it.
+// What 10 to 12 and 9 need of the entries so far: the sum of the fractions, the fractions of methane and of water, 0 where absent as document
+// 01 has it, whether the gas is in the hydrogen class, and, since that may show after the line, whether another line is above its limit
+// outside the class, and in it.
 #[derive(Clone, Copy, Default)]
 struct Scan {
     sum: u64,
     methane: u32,
-    hydrogen: u32,
+    class: bool,
     above_outside: bool,
     above_inside: bool,
     water: u32,
@@ -38,35 +36,44 @@ impl Scan {
         requires { self.sum < 2 ^ 63 }
         ensures sum { result.sum ≡ self.sum + fraction }
         ensures methane { result.methane ≡ cond (eqb line methane) fraction self.methane }
-        ensures hydrogen { result.hydrogen ≡ cond (eqb line hydrogen) fraction self.hydrogen }
+        ensures class { result.class ≡ (self.class || (eqb line hydrogen && hydrogen_class fraction)) }
         ensures outside { result.above_outside ≡ (self.above_outside || above_limit false line fraction) }
         ensures inside { result.above_inside ≡ (self.above_inside || above_limit true line fraction) }
         ensures water { result.water ≡ cond (eqb line water) fraction self.water }
     {
-        let (outside, inside) = conditions::above_limits(line, fraction);
-        // `|` and `fraction_or` leave no branch: a `match` on the line takes up to twice the time over 55 entries.
+        let noted = if conditions::COMMON_LIMIT < fraction {
+            self.with_large(line, fraction)
+        } else {
+            self
+        };
+        // `fraction_or` leaves no branch: a `match` on the line takes up to twice the time over 55 entries.
         Self {
             sum: self.sum + u64::from(fraction),
             methane: fraction_or(self.methane, conditions::METHANE, line, fraction),
-            hydrogen: fraction_or(self.hydrogen, conditions::HYDROGEN, line, fraction),
-            above_outside: self.above_outside | outside,
-            above_inside: self.above_inside | inside,
             water: fraction_or(self.water, conditions::WATER, line, fraction),
+            ..noted
         }
     }
 
-    // The gas is in the hydrogen class.
-    fn in_class(self) -> bool
-        ensures { result ≡ hydrogen_class self.hydrogen }
+    // With what no fraction up to the common limit tells.
+    fn with_large(self, line: u8, fraction: u32) -> Self
+        ensures class { result.class ≡ (self.class || (eqb line hydrogen && hydrogen_class fraction)) }
+        ensures outside { result.above_outside ≡ (self.above_outside || above_limit false line fraction) }
+        ensures inside { result.above_inside ≡ (self.above_inside || above_limit true line fraction) }
     {
-        LEAST_HYDROGEN <= self.hydrogen
+        Self {
+            class: self.class | conditions::is_class(line, fraction),
+            above_outside: self.above_outside | conditions::above_limit(false, line, fraction),
+            above_inside: self.above_inside | conditions::above_limit(true, line, fraction),
+            ..self
+        }
     }
 
-    // A line other than water is above its limit, outside the class or in it.
-    fn above(self, class: bool) -> bool
-        ensures { result ≡ cond class self.above_inside self.above_outside }
+    // A line other than water is above its limit.
+    fn above(self) -> bool
+        ensures { result ≡ cond self.class self.above_inside self.above_outside }
     {
-        if class {
+        if self.class {
             self.above_inside
         } else {
             self.above_outside
@@ -75,16 +82,15 @@ impl Scan {
 
     // 10 to 12 and 9, after the last entry.
     fn check(self) -> Result<(), Refusal>
-        ensures { number_in result ≡ first_of (limits_order (sum_outside self.sum) (methane_low (hydrogen_class self.hydrogen) self.methane) (cond (hydrogen_class self.hydrogen) self.above_inside self.above_outside) (water_high (hydrogen_class self.hydrogen) self.water)) }
+        ensures { number_in result ≡ first_of (limits_order (sum_outside self.sum) (methane_low self.class self.methane) (cond self.class self.above_inside self.above_outside) (water_high self.class self.water)) }
     {
-        let class = self.in_class();
-        if !class && self.methane < LEAST_METHANE {
+        if !self.class && self.methane < LEAST_METHANE {
             return Err(Refusal::MethaneLow);
         }
-        if self.above(class) {
+        if self.above() {
             return Err(Refusal::AboveLimit);
         }
-        if conditions::limit_of(class, conditions::WATER) < self.water {
+        if conditions::limit_of(self.class, conditions::WATER) < self.water {
             return Err(Refusal::WaterHigh);
         }
         if self.sum < LEAST_SUM || MOST_SUM < self.sum {

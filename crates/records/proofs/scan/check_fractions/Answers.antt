@@ -9,7 +9,7 @@ loop-k-preserved g c =
     let same = g.met.E.Entries.same c.args.entries.now in
     let w = c.with-scan.ensures in
     let x = c.fraction-fraction.ensures in
-    rw (w.sum, w.methane, w.hydrogen, w.outside, w.inside, w.water, c.line.ensures, x)
+    rw (w.sum, w.methane, w.class, w.outside, w.inside, w.water, c.line.ensures, x)
     (next_noted c.loop-k.invariant (omega (arith, c.len-k-end.ensures)) (omega (arith, c.len-k-end.ensures, same)) (rw x at c.if-fraction-eq0.false) (omega (arith, x)))
 
 pub returns-then-fraction-eq0 : goal.returns-then-fraction-eq0
