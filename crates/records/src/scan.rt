@@ -17,9 +17,9 @@ const MOST_SUM: u64 = 1000100;
 
 const LEAST_METHANE: u32 = 500000;
 
-// What 10 to 12 and 9 need of the entries so far: the sum of the fractions, the fractions of methane and of water, 0 where absent as document
-// 01 has it, whether the gas is in the hydrogen class, and, since that may show after the line, whether another line is above its limit
-// outside the class, and in it.
+// What 10 to 12 and 9 need of the entries so far: the sum of the fractions; the fractions of methane and of water, 0 where absent as document
+// 01 has it; whether hydrogen has put the gas into its class; and whether a line other than water is above its limit, outside the class and
+// in it, since hydrogen may stand after that line.
 #[derive(Clone, Copy, Default)]
 struct Scan {
     sum: u64,
