@@ -224,7 +224,7 @@ module _ (k : Contents) (a : Acceptable k) where
   unfolding W r
   W-by-r = wobbe_by_root (d k) d_low d_high (Hs k) Hs-by-d
 
-  -- W is within t, for a t that is large enough beside r and W
+  -- W is within t, for a t that is large enough beside r and W; 41 is how far 2 units of d may move r
   indexed_by : (t : ℕ) → 4 * 10 ^ 9 + 2 * (42 * W k) + 2 * (t * 41) + r k ≤ 2 * (t * r k) → t ≤ wobbe_low → Indexed t (W k) (unrounded.Hs k) (unrounded.d k)
   unfolding W r Hs
   indexed_by t room small =

@@ -91,7 +91,7 @@ module _ (M : ℕ) where
   pub ideal_relative_low : (A : ℕ) → mass_low ≤ M → air_low ≤ A → relative_low ≤ ideal_relative M A
   ideal_relative_low A h l = at_least (relative_near A) (omega (arith, mul-le-mul h l))
 
--- Hm is at most 15 × M, so the ideal calorific value I is at most twice G, each in its unit
+-- Hm is at most 15 × M, so the ideal calorific value I is at most twice G, each in its unit; first over plain numbers, multiplied by D × A
 twice : (Hm M D A I G : ℕ) → divisor_low * air_low ≤ D * A → Hm ≤ heat_by_mass * M → 2 * (I * D) ≤ 2 * (Hm * 1013250) + D
     → 2 * (M * A) ≤ 2 * (G * 289626000) + 289626000 → relative_low ≤ G → I * (D * A) ≤ 2 * G * (D * A)
 twice Hm M D A I G both h i g low =
@@ -125,11 +125,12 @@ module _ (ideal Z : ℕ) (low : compression_low ≤ Z) where
 -- and so Hs is at most twice d, but for 1
 pub real_by_real : (I G Z : ℕ) → compression_low ≤ Z → I ≤ 2 * G → real I Z ≤ 2 * real G Z + 1
 real_by_real I G Z low h =
-    let twice : 2 * real I Z ≤ 4 * real G Z + 3 =
+    let doubled : 2 * real I Z ≤ 4 * real G Z + 3 =
     le_of_mul-le-mul_right {m = 2 * real I Z} {n = 4 * real G Z + 3} {k = Z}
     (omega (arith, (real_near I Z low).below, (real_near G Z low).above)) (omega arith) in
     omega arith
 
+-- then W is at most a fifth of r, but for 6: over plain numbers, multiplied by r
 fifth : (Hs d r W : ℕ) → 2 * (W * r) ≤ 2 * (Hs * 10 ^ 9) + r → Hs ≤ 2 * d + 1 → d * 10 ^ 10 < (r + 1) * (r + 1) → root_low ≤ r → 5 * W * r ≤ (r + 30) * r
 fifth Hs d r W w h next low = omega (arith, w, h, next, mul-le-mul_left r low)
 
@@ -147,7 +148,6 @@ module _ (d : ℕ) (d_low : relative_low ≤ d) (d_high : d ≤ relative_bound) 
   pub wobbe_near : (Hs : ℕ) → Within half (wobbe Hs (root_of d)) ((Hs * 10 ^ 9) over root_of d)
   wobbe_near Hs = near_half (Hs * 10 ^ 9) (root_of d) (omega (arith, root_low_lem))
 
-  -- W is at most a fifth of r, but for 6
   pub wobbe_by_root : (Hs : ℕ) → Hs ≤ 2 * d + 1 → 5 * wobbe Hs (root_of d) ≤ root_of d + 30
   wobbe_by_root Hs h =
       le_of_mul-le-mul_right {m = 5 * wobbe Hs (root_of d)} {n = root_of d + 30} {k = root_of d}

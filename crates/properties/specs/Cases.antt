@@ -61,10 +61,10 @@ hydrogen_999900 = alone 999900
 abbrev hydrogen_1000100 : ℕ → ℕ → Contents
 hydrogen_1000100 = alone 1000100
 
-abbrev pub hydrogen_900000 : ℕ → ℕ → Contents
+abbrev hydrogen_900000 : ℕ → ℕ → Contents
 hydrogen_900000 c m = contents c m (1 ∷ 41 ∷ 52 ∷ []) (50000 ∷ 900000 ∷ 50000 ∷ [])
 
-abbrev pub half_below_zero : ℕ → ℕ → Contents
+abbrev half_below_zero : ℕ → ℕ → Contents
 half_below_zero c m = contents c m (1 ∷ 41 ∷ []) (313 ∷ 999687 ∷ [])
 
 abbrev hydrogen_every_line : ℕ → ℕ → Contents

@@ -95,7 +95,6 @@ pub fn index(hs: u64, d: u64) -> u64
 }
 
 // 6. The Wobbe index, of a calorific value that is at most twice the relative density, each in its unit, but for 1.
-#[tactic(auto, using(crate::proofs::StepBounds::wobbe_high))]
 pub fn wobbe_index(hs: CalorificValue, d: RelativeDensity) -> WobbeIndex
     requires known { (hs.value ≤ calorific_bound) × (relative_low ≤ d.value) × (d.value ≤ relative_bound) }
     requires by_density { hs.value ≤ 2 * d.value + 1 }

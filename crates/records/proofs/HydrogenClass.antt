@@ -1,21 +1,20 @@
 -- Outside the hydrogen class each condition is the former one, and in it each of the former orders had a condition that holds.
-use mathlib.Core.Path.{◌≡◌, refl, sym, ap, subst, ◌∙◌}
-use mathlib.Core.Bool.{Bool, true, false, not, ◌&&◌, ◌||◌, cond}
+use mathlib.Core.Path.{◌≡◌, refl, ap, ◌∙◌}
+use mathlib.Core.Bool.{Bool, true, false, ◌||◌, cond}
 use mathlib.Core.List.{List, [], ◌∷◌, ◌++◌}
 use Prim.Native.Nat.{ℕ, ◌≤◌}
 use native.Mathlib.Omega.{arith}
-use borrow.Author.Tests.{ltb-false, eq-eqb}
+use borrow.Author.Tests.{ltb-false}
 use lib.Dec.{T, eqb, eqb→eq, leb→le}
-use lib.Ieee.Fits.{and_r}
 use lib.ListN.{length}
 use Rattle.std.proofs.lemmas.Bool.{or_parts}
 use Rattle.components.specs.Composition.{hydrogen, least_hydrogen, in_class, fraction_for}
-use Rattle.records.specs.Order.{Order, first_of, refused, decided}
+use Rattle.records.specs.Order.{Order, first_of, decided}
 use Rattle.records.specs.Format.{lines_in, fractions_in, contents_in, bytes_of, placed}
 use Rattle.records.specs.Conditions.{ethane, water, nitrogen, carbon_dioxide, limit_of, any_above, content_order, head_order, record_order, start_order, room_order, writer_order}
 use Rattle.records.specs.ByOrder.{writer_order_by}
 use Rattle.records.specs.HydrogenClass.{former_limit_of, former_above_limit, former_any_above, classless_content_order, classless_record_order, record_in_class, ReadingStays, WritingStays, AlwaysRefused, AlwaysRefusedWriting, AcceptedReadingStays, AcceptedWritingStays, NoTenInClass, NoTenInClassWriting}
-use Rattle.records.proofs.OrderLaws.{unmet, clear_first, clear_second, decided_accepted, decided_refused}
+use Rattle.records.proofs.OrderLaws.{unmet, clear_first, clear_second, decided_accepted, not_refused}
 
 -- the limit of a line is the former one
 same_limit : (l : ℕ) → limit_of false l ≡ former_limit_of l
@@ -95,21 +94,8 @@ accepted_reading_stays bs k e = reading_stays bs (always_refused bs k e) ∙ e
 pub accepted_writing_stays : AcceptedWritingStays
 accepted_writing_stays k old new e = writing_stays k old (always_refused_writing k old new e) ∙ e
 
--- no condition with the number n holds, in no place of an order
-abbrev never : ℕ → Order → Bool
-never n [] = true
-never n ((m, holds) ∷ rest) = (not (eqb m n) || not holds) && never n rest
-
-not_first : (n : ℕ) (o : Order) → T (never n o) → (n ≡ 0 → ⊥) → n ≡ first_of o → ⊥
-not_first n [] t some e = some e
-not_first n ((m, true) ∷ rest) t some e = absurd (subst (λ (b : Bool). T ((not b || false) && never n rest)) (eq-eqb m n (sym e)) t)
-not_first n ((m, false) ∷ rest) t some e = not_first n rest (and_r (not (eqb m n) || true) (never n rest) t) some e
-
-no_ten : {A : Type 0} (o : Order) (a : A) → T (never 10 o) → decided (first_of o) a ≡ refused 10 → ⊥
-no_ten o a t r = not_first 10 o t (λ z. omega (arith, z)) (decided_refused (first_of o) a 10 r).0
-
 pub no_ten_in_class : NoTenInClass
-no_ten_in_class bs e r = no_ten (record_order bs) (contents_in bs) (rw e tt) r
+no_ten_in_class bs e = not_refused 10 (record_order bs) (contents_in bs) (rw e tt)
 
 pub no_ten_in_class_writing : NoTenInClassWriting
-no_ten_in_class_writing k old e r = no_ten (writer_order k (length old)) (placed old 0 (bytes_of k)) (rw e tt) r
+no_ten_in_class_writing k old e = not_refused 10 (writer_order k (length old)) (placed old 0 (bytes_of k)) (rw e tt)

@@ -1,10 +1,12 @@
 -- Laws of orders of refusals: which part of an order decides, what is known where no condition holds, and what a call then gives.
-use mathlib.Core.Path.{◌≡◌, refl, sym, ap, ◌∙◌}
-use mathlib.Core.Bool.{Bool, true, false}
+use mathlib.Core.Path.{◌≡◌, refl, sym, ap, subst, ◌∙◌}
+use mathlib.Core.Bool.{Bool, true, false, not, ◌&&◌, ◌||◌}
 use mathlib.Core.List.{[], ◌∷◌, ◌++◌}
 use Prim.Native.Nat.{ℕ, zero, suc}
 use native.Mathlib.Omega.{arith}
+use borrow.Author.Tests.{eq-eqb}
 use lib.Dec.{T, eqb}
+use lib.Ieee.Fits.{and_r}
 use Rattle.std.proofs.lemmas.Bool.{cond_both}
 use Rattle.std.specs.Prelude.{Result, Ok, Err}
 use Rattle.std.specs.Result.{IsErrAnd}
@@ -49,6 +51,16 @@ unmet ((zero, holds) ∷ rest) t h n = absurd t
 unmet ((suc m, true) ∷ rest) t h n = absurd (omega arith)
 unmet ((suc m, false) ∷ rest) t h n = cond_both (eqb (suc m) n) false (condition_of n rest) (λ (b : Bool). b ≡ false) (λ e. refl) (λ e. unmet rest t h n)
 
+-- no condition of an order that has the number n holds; so n is not what the order gives
+abbrev pub never : ℕ → Order → Bool
+never n [] = true
+never n ((m, holds) ∷ rest) = (not (eqb m n) || not holds) && never n rest
+
+not_first : (n : ℕ) (o : Order) → T (never n o) → (n ≡ 0 → ⊥) → n ≡ first_of o → ⊥
+not_first n [] t some e = some e
+not_first n ((m, true) ∷ rest) t some e = absurd (subst (λ (b : Bool). T ((not b || false) && never n rest)) (eq-eqb m n (sym e)) t)
+not_first n ((m, false) ∷ rest) t some e = not_first n rest (and_r (not (eqb m n) || true) (never n rest) t) some e
+
 -- no refusal has the number 0
 pub some_number : (e : Refusal) → number e ≡ 0 → ⊥
 some_number e h = grind arith
@@ -83,6 +95,10 @@ module _ {A : Type 0} where
   pub decided_refused : (n : ℕ) (answer : A) (number : ℕ) → decided n answer ≡ refused number → (number ≡ n) × (number ≡ 0 → ⊥)
   decided_refused zero answer number e = let z : ◌≡◌ {A = ℕ} 0 1 = cc in absurd (omega arith)
   decided_refused (suc n) answer number e = let z : suc n ≡ number = cc in (sym z, λ h. omega arith)
+
+-- a call is not refused by such a number
+pub not_refused : {A : Type 0} (n : ℕ) (o : Order) (a : A) → T (never n o) → decided (first_of o) a ≡ refused n → ⊥
+not_refused n o a t r = let d = decided_refused (first_of o) a n r in not_first n o t d.1 d.0
 
 pub otherwise_mapped : {A B : Type 0} (f : A → B) (a : A) (o : Outcome A) → otherwise (f a) (mapped f o) ≡ f (otherwise a o)
 otherwise_mapped f a (refused n) = refl
