@@ -8,11 +8,10 @@
 
 mod trouble;
 
-ghost use Rattle.std.specs.Prelude.{◌≤◌, IfOk, vec_len};
+ghost use Rattle.std.specs.Prelude.{◌≡◌, ◌≤◌, length, take, IfOk};
 
 use properties::{PerKilogram, Properties};
 use records::Refusal;
-use std::alloc::Allocator;
 use std::env::{Env, FillError};
 use std::fmt::{Display, Formatter};
 use std::io::{Input, Read};
@@ -79,15 +78,19 @@ fn asked_for(rt: &impl Env) -> Result<Asked, Trouble> {
     }
 }
 
-// What stands in the input up to its end, or the bytes that decide.
-fn read_record<R: Read + Drop, A: Allocator>(reader: R, alloc: A) -> io::Result<Vec<u8, A>>
-    ensures { IfOk result (λ bytes. vec_len bytes ≤ 284) }
+// Reads until the buffer is full or the input ends, however many pieces it comes in, and answers how many bytes it put at the start of the
+// buffer: it takes no more than the buffer holds. std's `read_to_end` promises no such bound, and needs memory, which may be short.
+fn read_full(reader: &mut impl Read, buffer: &mut [u8]) -> io::Result<usize>
+    ensures { IfOk result (λ n. (n ≤ length buffer.new) × (n ≡ length (take n buffer.new))) }
 {
-    let mut bytes = Vec::new(alloc);
-    reader.take(284).read_to_end(&mut bytes)?;
-    // No clause of `read_to_end` says what the reader's limit is: this shows the bound.
-    bytes.truncate(284);
-    Ok(bytes)
+    let mut done = 0;
+    while done < buffer.len() {
+        match reader.read(&mut buffer[done..])? {
+            0 => break,
+            more => done += more,
+        }
+    }
+    Ok(done)
 }
 
 fn print_asked(rt: &impl Print, asked: Asked, bytes: &[u8]) -> io::Result<()> {
@@ -99,8 +102,9 @@ fn print_asked(rt: &impl Print, asked: Asked, bytes: &[u8]) -> io::Result<()> {
 
 fn run<R: Env + Input + Print + Alloc>(rt: &R) -> Result<(), Trouble> {
     let asked = asked_for(rt)?;
-    let bytes = read_record(rt.reader(), rt.alloc()).map_err(Trouble::Input)?;
-    print_asked(rt, asked, &bytes).map_err(Trouble::Output)
+    let mut buffer = [0u8; 284];
+    let n = read_full(&mut rt.reader(), &mut buffer).map_err(Trouble::Input)?;
+    print_asked(rt, asked, &buffer[..n]).map_err(Trouble::Output)
 }
 
 fn main(rt: HostRuntime) {
