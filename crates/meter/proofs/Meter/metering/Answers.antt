@@ -1,20 +1,12 @@
 -- 13, or what the named stream gives.
-use Prim.Native.Nat.{◌<◌}
 use native.Mathlib.Omega.{arith}
-use lib.ListN.{length}
-use Rattle.std.proofs.lemmas.List.{get_or_default}
-use Rattle.meter.specs.State.{fresh_stream, stream_at}
 use Rattle.meter.specs.Conditions.{stream_metering_order}
 use Rattle.meter.specs.Calls.{metered}
-use Rattle.meter.proofs.Outcomes.{on_stream}
+use Rattle.meter.proofs.Outcomes.{on_index}
 use Rattle.meter.proofs.Meter.metering.Goals as goal
 
 pub returns : goal.returns
 returns c =
-    let m = c.args.self.now in
-    let k = c.args.stream in
     let v = c.args.volume in
-    let s = stream_at m k in
-    let within : k < length m.streams = omega arith in
-    on_stream m k (metered s v) (stream_metering_order v s) c.in_ok-check_stream.ensures.within
-    (rw (get_or_default m.streams k _ fresh_stream within) at c.metering.ensures)
+    let named = c.in_ok-check_stream.ensures.within in
+    on_index c.args.self.now _ (stream_metering_order v) (λ s. metered s v) named (omega (arith, named)) (omega (arith, named)) c.metering.ensures
