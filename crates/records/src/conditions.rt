@@ -35,8 +35,7 @@ pub fn count_outside(n: usize) -> bool
     !matches!(n, 1..=55)
 }
 
-// 1 to 6. In line with the loops over the entries, these tests make a check of 55 entries take half as long again.
-#[inline(never)]
+// 1 to 6.
 pub fn check_head(bytes: &[u8]) -> Result<(), Refusal>
     ensures { number_in result ≡ first_of (head_order bytes.now) }
 {

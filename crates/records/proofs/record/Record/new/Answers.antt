@@ -11,8 +11,8 @@ returns-in_err-check_head-clause-number c =
     let e = c.in_err-check_head.field-0.0 in
     number_passed _ e c.from_residual.ensures.1 ∙ stops (head_order b) (content_order (lines_in b) (fractions_in b)) c.in_err-check_head.ensures (some_number e)
 
-pub returns-in_err-check_content-clause-number : goal.returns-in_err-check_content-clause-number
-returns-in_err-check_content-clause-number c =
+pub returns-in_err-check_entries-clause-number : goal.returns-in_err-check_entries-clause-number
+returns-in_err-check_entries-clause-number c =
     let b = c.args.bytes.now in
-    number_passed _ c.in_err-check_content.field-0.0 c.from_residual-in_err-check_content.ensures.1
-    ∙ passes (head_order b) (content_order (lines_in b) (fractions_in b)) tt c.in_ok-check_head.ensures refl c.in_err-check_content.ensures
+    number_passed _ c.in_err-check_entries.field-0.0 c.from_residual-in_err-check_entries.ensures.1
+    ∙ passes (head_order b) (content_order (lines_in b) (fractions_in b)) tt c.in_ok-check_head.ensures refl c.in_err-check_entries.ensures
