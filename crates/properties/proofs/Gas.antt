@@ -30,8 +30,8 @@ use Rattle.records.specs.Accepted.{Acceptable}
 use Rattle.records.proofs.Accepted.{accepted_is_acceptable}
 use Rattle.properties.specs.Chain.{combustion_place, sum, T, D, HmSuperior, HmInferior, M, S, S9, Z, Hs, Hi, rho, A, G, d, r, W, ideal_calorific, ideal_density, real, wobbe, root_of, six_of}
 use Rattle.properties.specs.Unrounded as unrounded
-use Rattle.properties.specs.Quantities.{calorific_bound, density_bound, relative_bound, wobbe_bound, Bounded}
-use Rattle.properties.specs.Bounds.{divisor_low, divisor_high, air_low, air_high, compression_low, calorific_low, density_low, relative_low, ideal_relative_high, ideal_high, root_low, wobbe_low, Floored, Proper, DensityByAir}
+use Rattle.properties.specs.Quantities.{density_bound, relative_bound, wobbe_bound, Bounded}
+use Rattle.properties.specs.Bounds.{divisor_low, divisor_high, air_low, air_high, compression_low, calorific_low, calorific_high, density_low, relative_low, ideal_relative_high, ideal_high, root_low, wobbe_low, Floored, Proper, DensityByAir}
 use Rattle.properties.specs.Distances.{Indexed, wobbe_distance, Distances}
 use Rattle.properties.specs.PerKilogram.{per_kilogram, unrounded_per_kilogram, mass_basis_of, per_kilogram_distance, PerKilogramShown, MeteringDoesNotMatter}
 use Rattle.properties.specs.Accepted.{Amounts, Squares, EveryAcceptedRecord}
@@ -148,7 +148,7 @@ module _ (k : Contents) (a : Acceptable k) where
   -- a calorific value of a sum of heats within its bounds is between its own, and within 2 of its unit
   record Calorific (Hm : ℕ) : Type 0 where
     low : calorific_low ≤ real (ideal_calorific Hm (D k)) (Z k)
-    high : real (ideal_calorific Hm (D k)) (Z k) ≤ calorific_bound
+    high : real (ideal_calorific Hm (D k)) (Z k) ≤ calorific_high
     within : Within (whole 2) (real (ideal_calorific Hm (D k)) (Z k)) (unrounded.real (unrounded.ideal_calorific (whole Hm) (D k)) (unrounded.Z k))
 
   calorific : (Hm : ℕ) → heat_low ≤ Hm → Hm ≤ heat_high → Calorific Hm
@@ -156,7 +156,7 @@ module _ (k : Contents) (a : Acceptable k) where
       let ideal = ideal_calorific_high_lem Hm (D k) high D-low in
       record {
         low = real_low _ (Z k) Z-low Z-high calorific_low (ideal_calorific_low Hm (D k) low (omega (arith, D-low)) D-high);
-        high = real_high _ (Z k) Z-low calorific_bound (omega (arith, ideal));
+        high = real_high _ (Z k) Z-low calorific_high (omega (arith, ideal));
         within = real_of _ _ _ (calorific_near Hm (D k) (omega (arith, D-low))) (omega (arith, ideal));
       }
 
@@ -182,6 +182,14 @@ module _ (k : Contents) (a : Acceptable k) where
   d_within = real_of _ _ _ (relative_near (M k) (A k)) (omega (arith, relative_ideal))
 
   -- bounds of the properties
+  pub Hs-high : Hs k ≤ calorific_high
+  unfolding Hs
+  Hs-high = superior_calorific.high
+
+  pub Hi-high : Hi k ≤ calorific_high
+  unfolding Hi
+  Hi-high = inferior_calorific.high
+
   Hi-below : Hi k ≤ Hs k
   unfolding Hi Hs
   Hi-below =
@@ -243,8 +251,8 @@ module _ (k : Contents) (a : Acceptable k) where
   bounded =
       record {
         Z = Z-high;
-        Hs = omega (arith, superior_calorific.high);
-        Hi = omega (arith, inferior_calorific.high);
+        Hs = omega (arith, Hs-high);
+        Hi = omega (arith, Hi-high);
         rho = rho_high;
         d = d_high;
         W = W-high;

@@ -30,12 +30,15 @@ air_high = 100000
 abbrev pub compression_low : ℕ
 compression_low = 724000000
 
--- 3. The ideal calorific value, unit J/m³; the lower bound is of Hs and Hi too
+-- 3. The ideal calorific value, and Hs and Hi, unit J/m³; the lower bound is of all three
 abbrev pub calorific_low : ℕ
 calorific_low = 9030000
 
 abbrev pub ideal_calorific_high : ℕ
 ideal_calorific_high = 175000000
+
+abbrev pub calorific_high : ℕ
+calorific_high = 242000000
 
 -- 4. The ideal density, and rho, unit 10^-8 kg/m³
 abbrev pub density_low : ℕ
