@@ -100,7 +100,7 @@ fn print_asked(rt: &impl Print, asked: Asked, bytes: &[u8]) -> io::Result<()> {
     }
 }
 
-fn run<R: Env + Input + Print + Alloc>(rt: &R) -> Result<(), Trouble> {
+fn run<R: Env + Input + Print>(rt: &R) -> Result<(), Trouble> {
     let asked = asked_for(rt)?;
     let mut buffer = [0u8; 284];
     let n = read_full(&mut rt.reader(), &mut buffer).map_err(Trouble::Input)?;
