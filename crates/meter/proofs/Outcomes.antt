@@ -39,6 +39,7 @@ pub on_index : (m : Meter) (d : Stream) {k i : ℕ} {v : Verdict} {s : Stream} (
     Gives (decided (first_of (rest (get_or m.streams i d))) (new (get_or m.streams i d))) (get_or m.streams i d) v s →
     Gives (decided (first_of ((13, ltb last_stream k) ∷ rest (stream_at m k))) (with_stream m k (new (stream_at m k)))) m v (with_stream m i s)
 on_index m d {k} {i} {v} {s} rest new low within same =
-    let named : (t : Stream) → Stream → Type 0 = λ t t2. Gives (decided (first_of (rest t)) (new t)) t v t2 in
-    subst (λ (j : ℕ). named (get_or m.streams j d) s → Gives (decided (first_of ((13, ltb last_stream k) ∷ rest (stream_at m k))) (with_stream m k (new (stream_at m k)))) m v (with_stream m j s)) (sym same)
-    (λ g. on_stream m k (new (stream_at m k)) (rest (stream_at m k)) low (rw (get_or_default m.streams k d fresh_stream within) at g))
+    let given : ℕ → Type 0 = λ j. Gives (decided (first_of (rest (get_or m.streams j d))) (new (get_or m.streams j d))) (get_or m.streams j d) v s in
+    let gives : ℕ → Type 0 = λ j. Gives (decided (first_of ((13, ltb last_stream k) ∷ rest (stream_at m k))) (with_stream m k (new (stream_at m k)))) m v (with_stream m j s) in
+    let at_k : given k → gives k = λ g. on_stream m k (new (stream_at m k)) (rest (stream_at m k)) low (rw (get_or_default m.streams k d fresh_stream within) at g) in
+    subst (λ j. given j → gives j) (sym same) at_k
