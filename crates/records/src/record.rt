@@ -84,8 +84,7 @@ impl Entries for RecordEntries<'_> {
     }
 }
 
-// 7, 8, 10 to 12 and 9. It stays a call: in line, its loops have a record that its head refuses save registers for them, and with the tests
-// of the head among them a check of 55 entries takes half as long again.
+// 7, 8, 10 to 12 and 9. It stays a call: in line, a record that its head refuses would save the registers of its loops too.
 #[inline(never)]
 fn check_entries(entries: &RecordEntries) -> Result<(), Refusal>
     ensures { number_in result ≡ first_of (content_order (lines_in entries.now.bytes.now) (fractions_in entries.now.bytes.now)) }
